@@ -1,0 +1,11 @@
+pub mod Text
+pub mod Padding
+pub mod Number
+pub mod Amount
+pub mod Rows
+pub mod Item
+pub mod Captured
+pub mod Fits
+pub mod Causes
+pub mod Streams
+pub mod Memory

@@ -1,0 +1,6 @@
+//! The nineteen messages as one type.
+#![tactic(auto)]
+
+mod message;
+
+pub use message::{Body, Message};

@@ -1,0 +1,12 @@
+pub mod Lists
+pub mod Rows
+pub mod RowSet
+pub mod Settings
+pub mod Entry
+pub mod Items
+pub mod Acked
+pub mod InForce
+pub mod Allowed
+pub mod Floor
+pub mod Log
+pub mod HostAllowed

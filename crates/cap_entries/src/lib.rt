@@ -1,0 +1,12 @@
+//! The entries of both ends' journals, how an end is set up, parameter sets, and the rules of what may stand after what.
+#![tactic(auto)]
+
+mod host;
+mod lists;
+mod rows;
+mod terminal;
+
+pub use host::{HostEntry, HostSetup};
+pub use lists::{Blocks, Idents};
+pub use rows::{RowFault, RowSet};
+pub use terminal::{TermEntry, TermSetup};

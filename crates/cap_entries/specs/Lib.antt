@@ -10,3 +10,7 @@ pub mod Allowed
 pub mod Floor
 pub mod Log
 pub mod HostAllowed
+pub mod Fronts
+pub mod ItemsLaws
+pub mod AllowedLaws
+pub mod LogLaws

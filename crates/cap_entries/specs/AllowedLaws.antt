@@ -1,5 +1,6 @@
 -- How legal journals grow.
-use Rattle.std.proofs.Common.{◌≡◌, true, false, List, [], ◌∷◌, ◌++◌, refl, sym, ◌∙◌, append_assoc, append-nil}
+use Rattle.std.proofs.Common.{◌≡◌, ℕ, ◌+◌, ◌<◌, true, false, List, [], ◌∷◌, ◌++◌, length, take, drop, get_or, refl, sym, ◌∙◌, ap, append_assoc, append-nil, take-append-drop}
+use Rattle.std.proofs.lemmas.List.{drop_more}
 use Rattle.std.proofs.lemmas.Bool.{false≢true, and_parts, and_from}
 use Rattle.cap_entries.specs.declared.terminal.TermEntry.{TermEntry}
 use Rattle.cap_entries.specs.Entry.{is_setup}
@@ -35,3 +36,13 @@ module _ (P : List TermEntry → Type 0) (step : (before : List TermEntry) (entr
 pub allowed_is : (before : List TermEntry) (entry : TermEntry) → is_setup entry ≡ false → allowed before entry ≡ true → allowed_after before entry ≡ true
 allowed_is [] entry unset e = absurd (false≢true (sym unset ∙ e))
 allowed_is (head ∷ rest) entry unset e = e
+
+-- the same of the entries up to a place, and of the entry at that place
+pub all_allowed-take : (entries : List TermEntry) (i : ℕ) → all_allowed [] entries ≡ true → all_allowed [] (take i entries) ≡ true
+all_allowed-take entries i p = all_allowed_front [] (take i entries) (drop i entries) (ap (all_allowed []) (take-append-drop i entries) ∙ p)
+
+pub allowed-at : (entries : List TermEntry) (i : ℕ) (d : TermEntry) → i < length entries → all_allowed [] entries ≡ true → allowed (take i entries) (get_or entries i d) ≡ true
+allowed-at entries i d h p =
+    let back : all_allowed (take i entries) (drop i entries) ≡ true = all_allowed_back [] (take i entries) (drop i entries) (ap (all_allowed []) (take-append-drop i entries) ∙ p) in
+    (and_parts (allowed (take i entries) (get_or entries i d)) (all_allowed (take i entries ++ get_or entries i d ∷ []) (drop (i + 1) entries))
+    (sym (ap (all_allowed (take i entries)) (drop_more entries i d h)) ∙ back)).0

@@ -1,5 +1,6 @@
 -- How the items of a journal grow.
-use Rattle.std.proofs.Common.{◌≡◌, List, [], ◌∷◌, ◌++◌, refl, ◌∙◌, ap, append_assoc, append-nil}
+use Rattle.std.proofs.Common.{◌≡◌, ℕ, ◌+◌, ◌<◌, List, [], ◌∷◌, ◌++◌, length, take, get_or, refl, ◌∙◌, ap, append_assoc, append-nil}
+use Rattle.std.proofs.lemmas.List.{take_more}
 use Rattle.cap_base.specs.declared.item.Item.{Item}
 use Rattle.cap_entries.specs.declared.terminal.TermEntry.{TermEntry}
 use Rattle.cap_entries.specs.declared.terminal.TermEntry.TheVariants.{Setup, Begin, Declined, Completed, Voided, Cancelled, Closed, Acked, Part}
@@ -39,3 +40,7 @@ items_grow es fs = rw items-append (items_from_grow es (items es) fs)
 -- items after one more entry
 pub items-push : (before : List TermEntry) (entry : TermEntry) → items (before ++ entry ∷ []) ≡ items_after before (items before) entry
 items-push before entry = items-append before (entry ∷ [])
+
+-- items up to the next place
+pub items-take : (entries : List TermEntry) (i : ℕ) (d : TermEntry) → i < length entries → items (take (i + 1) entries) ≡ items_after (take i entries) (items (take i entries)) (get_or entries i d)
+items-take entries i d h = ap items (take_more entries i d h) ∙ items-push (take i entries) (get_or entries i d)

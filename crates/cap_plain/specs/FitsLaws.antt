@@ -20,3 +20,11 @@ pub all_fit_back : (before items more : List Item) → all_fit before (items ++ 
 all_fit_back before [] more p = rw append-nil p
 all_fit_back before (item ∷ items) more p =
     rw append_assoc at (all_fit_back (before ++ item ∷ []) items more (and_parts (fits before item) (all_fit (before ++ item ∷ []) (items ++ more)) p).1)
+
+-- induction along items that fit one after another
+module _ (P : List Item → Type 0) (step : (before : List Item) (item : Item) → P before → fits before item ≡ true → P (before ++ item ∷ [])) where
+  pub along_fits : (before items : List Item) → P before → all_fit before items ≡ true → P (before ++ items)
+  along_fits before [] p q = rw append-nil p
+  along_fits before (item ∷ items) p q =
+      let parts = and_parts (fits before item) (all_fit (before ++ item ∷ []) items) q in
+      rw append_assoc at (along_fits (before ++ item ∷ []) items (step before item p parts.0) parts.1)

@@ -1,6 +1,6 @@
 -- A legal journal's items fit one after another, and each Close has the totals of what stands before it.
 use Rattle.std.proofs.Common.{◌≡◌, ◌⊎◌, ℕ, ◌+◌, ◌-◌, ◌≤◌, Bool, true, cond, not, ◌&&◌, List, [], ◌∷◌, ◌++◌, refl, sym, ◌∙◌, ap, subst, inl, inr, ⊎_elim, append_assoc, append-nil, arith, eq-eqb, eqb-true, leb-true, le-leb}
-use Rattle.std.specs.Prelude.{count_by, filter, ◌==◌, nat_le}
+use Rattle.std.specs.Prelude.{count_by, filter, ◌==◌, nat_le, bytes_eq}
 use Rattle.std.specs.List.{list_any}
 use Rattle.std.proofs.lemmas.Bool.{cond-true, cond-false, cases_Bool, false≢true, and_parts, and_from, or_cases, or_left, or_right, not-true, not_from_false, false_from_ne_true}
 use Rattle.std.proofs.Math.Bool.{or-false}
@@ -14,7 +14,7 @@ use Rattle.cap_entries.specs.declared.terminal.TermEntry.TheVariants.{Setup, Beg
 use Rattle.cap_base.specs.Captured.{sums_of, before_close, after_close, period_totals, totals}
 use Rattle.cap_base.specs.Item.{is_end, is_close, is_any_close, is_sale_where, is_sale_of}
 use Rattle.cap_base.specs.Fits.{is_number, all_fit}
-use Rattle.cap_entries.specs.Entry.{is_any_begin, is_begin, ends, completes, is_any_closed, is_pending, is_completed, is_cancelled, amount_of, account_of, max_of}
+use Rattle.cap_entries.specs.Entry.{is_any_begin, is_begin, ends, completes, is_any_closed, is_pending, is_completed, is_cancelled, amount_of, account_of, max_of, is_setup}
 use Rattle.cap_entries.specs.Items.{items_after, items_from, items}
 use Rattle.cap_plain.specs.KeptSales.{sale_of, sales_from}
 use Rattle.cap_entries.specs.Allowed.{allowed, all_allowed}
@@ -22,6 +22,7 @@ use Rattle.cap_plain.specs.KeptLaws.{captured_items}
 use Rattle.cap_plain.specs.FitsLaws.{all_fit-append}
 use Rattle.cap_entries.specs.AllowedLaws.{along, allowed_is}
 use Rattle.cap_entries.specs.ItemsLaws.{items-push}
+
 -- an item that ends a sale is an entry that ends it
 ends_after : (n : ℕ) (before : List TermEntry) (items : List Item) (entry : TermEntry) → list_any (is_end n) (items_after before items entry) ≡ true → (list_any (is_end n) items ≡ true) ⊎ (ends n entry ≡ true)
 ends_after n before items (Setup setup) e = inl e
@@ -273,3 +274,29 @@ totals_prefix items more p = totals_front [] items more p
 
 pub totals_one : (before : List Item) (item : Item) (rest : List Item) → TotalsFrom before (item ∷ rest) → TotalsFrom before (item ∷ [])
 totals_one before item rest p = totals_front before (item ∷ []) rest p
+
+max_from : (first : TermEntry) (rest : List TermEntry) → is_setup first ≡ true → max_of (first ∷ rest) ≤ 250000
+max_from (Setup settings) rest ok =
+    let parts = and_parts (nat_le 1 settings.max && nat_le settings.max 250000) (nat_le settings.floor 999999999999 && not (bytes_eq settings.terminal settings.host)) ok in
+    leb-true settings.max 250000 (and_parts (nat_le 1 settings.max) (nat_le settings.max 250000) parts.0).1
+max_from (Begin k amount account) rest ok = omega arith
+max_from (Declined k) rest ok = omega arith
+max_from (Completed k code) rest ok = omega arith
+max_from (Voided k) rest ok = omega arith
+max_from (Cancelled k) rest ok = omega arith
+max_from (Closed k) rest ok = omega arith
+max_from (Acked k) rest ok = omega arith
+max_from (Part_entry part) rest ok = omega arith
+
+-- a legal journal begins at most 250,000 sales
+pub max_within : (entries : List TermEntry) → all_allowed [] entries ≡ true → max_of entries ≤ 250000
+max_within [] ok = omega arith
+max_within (first ∷ rest) ok = max_from first rest (and_parts (is_setup first) (all_allowed (first ∷ []) rest) ok).0
+
+-- the items of a legal journal fit one after another
+pub items_fit : (entries : List TermEntry) → all_allowed [] entries ≡ true → all_fit [] (items entries) ≡ true
+items_fit entries ok = legal_items_fit entries ok (max_within entries ok)
+
+-- a completed sale was begun
+pub completed_begun : (entries : List TermEntry) → all_allowed [] entries ≡ true → (n : ℕ) → is_completed entries n ≡ true → list_any (is_begin n) entries ≡ true
+completed_begun entries ok n e = ((along Journaled journaled_step [] entries journaled_none ok).sale n e).0

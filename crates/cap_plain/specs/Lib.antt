@@ -5,3 +5,6 @@ pub mod FitsLaws
 pub mod KeptLaws
 pub mod Once
 pub mod LegalLaws
+pub mod Bounded
+pub mod Counted
+pub mod SumsLaws

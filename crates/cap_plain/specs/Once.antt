@@ -37,7 +37,7 @@ module _ (p : Item → Bool) (I : List Item → Type 0)
       (⊎_elim (λ yes. rw yes (omega (arith, new before item i parts.0 yes))) (λ no. rw no (omega arith)) (cases_Bool (p item))) in
       rw append_assoc at (once (before ++ item ∷ []) items (kept before item i parts.0) here parts.1)
 
-end_new : (n : ℕ) (before : List Item) (item : Item) → fits before item ≡ true → is_end n item ≡ true → list_any (is_end n) before ≡ false
+pub end_new : (n : ℕ) (before : List Item) (item : Item) → fits before item ≡ true → is_end n item ≡ true → list_any (is_end n) before ≡ false
 end_new n before (Sale k amount account code) fit e =
     subst (λ j. list_any (is_end j) before ≡ false) (eqb-true k n e) (not-true _ (and_parts (is_number k) (not (list_any (is_end k) before)) fit).1)
 end_new n before (Void k) fit e =
@@ -46,7 +46,7 @@ end_new n before (Cancel k amount) fit e = absurd (false≢true e)
 end_new n before (Close p totals) fit e = absurd (false≢true e)
 
 -- a Sale that is found among the kept ones passes their test
-kept_passes : (test : ℕ → Bool) (k a : ℕ) (xs : List Item) → list_any (is_sale_of k a) (filter (is_sale_where test) xs) ≡ true → test k ≡ true
+pub kept_passes : (test : ℕ → Bool) (k a : ℕ) (xs : List Item) → list_any (is_sale_of k a) (filter (is_sale_where test) xs) ≡ true → test k ≡ true
 kept_passes test k a [] e = absurd (false≢true e)
 kept_passes test k a (Sale j b account code ∷ xs) e =
     ⊎_elim
@@ -59,7 +59,7 @@ kept_passes test k a (Void j ∷ xs) e = kept_passes test k a xs e
 kept_passes test k a (Cancel j b ∷ xs) e = kept_passes test k a xs e
 kept_passes test k a (Close p totals ∷ xs) e = kept_passes test k a xs e
 
-cancel_new : (n : ℕ) (before : List Item) (item : Item) → fits before item ≡ true → is_cancel n item ≡ true → list_any (is_cancel n) before ≡ false
+pub cancel_new : (n : ℕ) (before : List Item) (item : Item) → fits before item ≡ true → is_cancel n item ≡ true → list_any (is_cancel n) before ≡ false
 cancel_new n before (Sale k amount account code) fit e = absurd (false≢true e)
 cancel_new n before (Void k) fit e = absurd (false≢true e)
 cancel_new n before (Cancel k amount) fit e =

@@ -14,3 +14,7 @@ pub mod Fronts
 pub mod ItemsLaws
 pub mod AllowedLaws
 pub mod LogLaws
+pub mod Stage
+pub mod Summary
+pub mod StageLaws
+pub mod SummaryLaws

@@ -4,6 +4,7 @@
 mod host;
 mod lists;
 mod rows;
+mod stage;
 mod terminal;
 
 pub use host::{HostEntry, HostSetup};

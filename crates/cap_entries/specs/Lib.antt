@@ -18,3 +18,4 @@ pub mod Stage
 pub mod Summary
 pub mod StageLaws
 pub mod SummaryLaws
+pub mod SummaryKept

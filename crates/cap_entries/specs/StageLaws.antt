@@ -1,5 +1,5 @@
 -- How the stages of sales change.
-use Rattle.std.proofs.Common.{◌≡◌, ℕ, zero, suc, ◌+◌, ◌-◌, ◌<◌, ◌≤◌, Bool, true, false, cond, List, [], ◌∷◌, ◌++◌, length, Option, Some, None, refl, sym, ◌∙◌, ap, subst, ⊎_elim, arith, eqb-true, eq-eqb, ne_eqb, add-one}
+use Rattle.std.proofs.Common.{◌≡◌, ℕ, zero, suc, ◌+◌, true, false, cond, List, [], ◌∷◌, ◌++◌, length, Option, Some, None, refl, sym, ◌∙◌, ap, subst, ⊎_elim, arith, eqb-true, eq-eqb, add-one}
 use Rattle.std.specs.Prelude.{◌==◌, slice_get, slice_set, sum_by}
 use Rattle.std.proofs.lemmas.Bool.{cond-true, cond-false, cases_Bool, false≢true, both_ways}
 use Rattle.std.proofs.lemmas.Option.{none-some, slice_get_past, slice_get_within, get_or_from_slice_get}
@@ -7,7 +7,7 @@ use Rattle.std.proofs.lemmas.List.{length-set}
 use Rattle.std.proofs.lemmas.List.Sums.{sum_by-set}
 use Rattle.cap_entries.specs.declared.stage.Stage.{Stage}
 use Rattle.cap_entries.specs.declared.stage.Stage.TheVariants.{Pending, Declined, Completed, Voided, Cancelled}
-use Rattle.cap_entries.specs.Stage.{stage_of, set_stage, is_begun, is_ended, was_completed, was_cancelled, items_made, may_end, may_cancel}
+use Rattle.cap_entries.specs.Stage.{stage_of, set_stage, items_made, may_end, may_cancel}
 
 get_push_last : (xs : List Stage) (y : Stage) → slice_get (xs ++ y ∷ []) (length xs) ≡ Some y
 get_push_last [] y = refl

@@ -1,16 +1,15 @@
 -- The summary of a legal journal tells exactly what is allowed next.
-use Rattle.std.proofs.Common.{◌≡◌, ℕ, zero, suc, ◌+◌, ◌-◌, ◌<◌, ◌≤◌, Bool, true, false, cond, not, ◌&&◌, ◌||◌, List, [], ◌∷◌, ◌++◌, length, Option, Some, None, refl, sym, ◌∙◌, ap, subst, ⊎_elim, arith, eqb-true, eq-eqb, ne_eqb, length-append}
-use Rattle.std.specs.Prelude.{◌==◌, nat_le, nat_lt, count_by, fold, sum_by}
+use Rattle.std.proofs.Common.{◌≡◌, ℕ, zero, suc, ◌+◌, Bool, true, false, cond, not, ◌&&◌, ◌||◌, List, [], ◌∷◌, ◌++◌, length, Option, Some, None, refl, sym, ◌∙◌, ap, subst, ⊎_elim, arith, eqb-true, length-append}
+use Rattle.std.specs.Prelude.{◌==◌, nat_le, count_by}
 use Rattle.std.specs.List.{list_any}
 use Rattle.std.specs.Option.{option_map}
 use Rattle.std.proofs.Math.Bool.{or-false}
-use Rattle.std.proofs.lemmas.Bool.{cond-true, cond-false, cases_Bool, false≢true, and_parts, and_from}
+use Rattle.std.proofs.lemmas.Bool.{cond-true, cond-false, cases_Bool, false≢true, and_parts}
 use Rattle.std.proofs.lemmas.List.Folds.{list_any-append}
 use Rattle.std.proofs.lemmas.List.Sums.{fold_push}
 use Rattle.cap_base.specs.declared.item.Item.{Item}
 use Rattle.cap_base.specs.declared.parameters.ConfigPart.{ConfigPart}
 use Rattle.cap_entries.specs.declared.stage.Stage.{Stage}
-use Rattle.cap_entries.specs.declared.stage.Staged.{Staged}
 use Rattle.cap_entries.specs.declared.stage.Stage.TheVariants.{Pending, Declined as Stage_declined, Completed as Stage_completed, Voided as Stage_voided, Cancelled as Stage_cancelled}
 use Rattle.cap_entries.specs.declared.terminal.TermEntry.{TermEntry}
 use Rattle.cap_entries.specs.declared.terminal.TermEntry.TheVariants.{Setup, Begin, Declined, Completed, Voided, Cancelled, Closed, Acked, Part}
@@ -19,11 +18,11 @@ use Rattle.cap_entries.specs.Items.{items_after, items}
 use Rattle.cap_entries.specs.Acked.{acked_from, acked}
 use Rattle.cap_entries.specs.InForce.{version_in_force_from, version_in_force, staged_from, continues, staged_version}
 use Rattle.cap_entries.specs.Allowed.{part_allowed, allowed_after, allowed, all_allowed}
-use Rattle.cap_entries.specs.AllowedLaws.{along, allowed_is}
+use Rattle.cap_entries.specs.AllowedLaws.{along}
 use Rattle.cap_entries.specs.ItemsLaws.{items-push}
-use Rattle.cap_entries.specs.Stage.{stage_of, set_stage, is_begun, is_ended, was_completed, was_cancelled, items_made, may_end, may_cancel}
-use Rattle.cap_entries.specs.StageLaws.{stage-push, stage-set, stage_past, length-set_stage, items-set_stage, ends_pending, cancels_completed}
-use Rattle.cap_entries.specs.Summary.{Summary, no_summary, staged_by, summary_after, summary, continues_staged, version_staged, part_follows, follows, may_follow, IsSummary}
+use Rattle.cap_entries.specs.Stage.{stage_of, set_stage, is_begun, is_ended, was_completed, was_cancelled, may_end, may_cancel}
+use Rattle.cap_entries.specs.StageLaws.{stage-push, stage-set, stage_past, length-set_stage, ends_pending, cancels_completed}
+use Rattle.cap_entries.specs.Summary.{Summary, no_summary, staged_by, summary_after, summary, continues_staged, version_staged, part_follows, follows, may_follow}
 
 -- one entry more, where each row of the summary is one of the list
 push_acked : (m : ℕ) (entries : List TermEntry) (entry : TermEntry) → acked_from m (entries ++ entry ∷ []) ≡ acked_from (acked_from m entries) (entry ∷ [])

@@ -2,12 +2,14 @@
 #![tactic(auto)]
 
 mod host;
+mod judge;
 mod lists;
 mod rows;
 mod stage;
 mod terminal;
 
 pub use host::{HostEntry, HostSetup};
+pub use judge::TermJudge;
 pub use lists::{Blocks, Idents};
 pub use rows::{RowFault, RowSet};
 pub use terminal::{TermEntry, TermSetup};

@@ -19,3 +19,5 @@ pub mod Summary
 pub mod StageLaws
 pub mod SummaryLaws
 pub mod SummaryKept
+pub mod FirstNotAllowed
+pub mod FirstLaws

@@ -1,5 +1,5 @@
 -- The summary of a legal journal tells exactly what is allowed next.
-use Rattle.std.proofs.Common.{◌≡◌, ℕ, zero, suc, ◌+◌, Bool, true, false, cond, not, ◌&&◌, ◌||◌, List, [], ◌∷◌, ◌++◌, length, Option, Some, None, refl, sym, ◌∙◌, ap, subst, ⊎_elim, arith, eqb-true, length-append}
+use Rattle.std.proofs.Common.{◌≡◌, ◌<◌, take, get_or, ℕ, zero, suc, ◌+◌, Bool, true, false, cond, not, ◌&&◌, ◌||◌, List, [], ◌∷◌, ◌++◌, length, Option, Some, None, refl, sym, ◌∙◌, ap, subst, ⊎_elim, arith, eqb-true, length-append}
 use Rattle.std.specs.Prelude.{◌==◌, nat_le, count_by}
 use Rattle.std.specs.List.{list_any}
 use Rattle.std.specs.Option.{option_map}
@@ -7,6 +7,7 @@ use Rattle.std.proofs.Math.Bool.{or-false}
 use Rattle.std.proofs.lemmas.Bool.{cond-true, cond-false, cases_Bool, false≢true, and_parts}
 use Rattle.std.proofs.lemmas.List.Folds.{list_any-append}
 use Rattle.std.proofs.lemmas.List.Sums.{fold_push}
+use Rattle.std.proofs.lemmas.List.{take_more}
 use Rattle.cap_base.specs.declared.item.Item.{Item}
 use Rattle.cap_base.specs.declared.parameters.ConfigPart.{ConfigPart}
 use Rattle.cap_entries.specs.declared.stage.Stage.{Stage}
@@ -405,3 +406,7 @@ may_follow_from (first ∷ rest) entry s m = cond-true s.started _ _ m.started �
 -- what may follow the summary of a legal journal is what is allowed after it
 pub may_follow_is : (entries : List TermEntry) (entry : TermEntry) → all_allowed [] entries ≡ true → may_follow (summary entries) entry ≡ allowed entries entry
 may_follow_is entries entry ok = may_follow_from entries entry (summary entries) (summarises entries ok)
+
+-- the summary up to the next place
+pub summary-take : (entries : List TermEntry) (i : ℕ) (d : TermEntry) → i < length entries → d ≡ get_or entries i d → summary (take i entries ++ d ∷ []) ≡ summary (take (i + 1) entries)
+summary-take entries i d h is = ap (λ e. summary (take i entries ++ e ∷ [])) is ∙ ap summary (sym (take_more entries i d h))

@@ -14,6 +14,7 @@ pub mod Fronts
 pub mod ItemsLaws
 pub mod AllowedLaws
 pub mod LogLaws
+pub mod StepLaws
 pub mod Stage
 pub mod Summary
 pub mod StageLaws
@@ -21,3 +22,6 @@ pub mod SummaryLaws
 pub mod SummaryKept
 pub mod FirstNotAllowed
 pub mod FirstLaws
+pub mod FitsLaws
+pub mod LogSummary
+pub mod LogSummaryLaws

@@ -21,6 +21,7 @@ use Rattle.cap_entries.specs.InForce.{version_in_force_from, version_in_force, s
 use Rattle.cap_entries.specs.Allowed.{part_allowed, allowed_after, allowed, all_allowed}
 use Rattle.cap_entries.specs.AllowedLaws.{along}
 use Rattle.cap_entries.specs.ItemsLaws.{items-push}
+use Rattle.cap_entries.specs.StepLaws.{tested, untouched}
 use Rattle.cap_entries.specs.Stage.{stage_of, set_stage, is_begun, is_ended, was_completed, was_cancelled, may_end, may_cancel}
 use Rattle.cap_entries.specs.StageLaws.{stage-push, stage-set, stage_past, length-set_stage, ends_pending, cancels_completed}
 use Rattle.cap_entries.specs.Summary.{Summary, no_summary, staged_by, summary_after, summary, continues_staged, version_staged, part_follows, follows, may_follow}
@@ -192,21 +193,6 @@ follows_is entries s (Closed p) m = rw m.closes refl
 follows_is entries s (Acked k) m = rw (m.counts.acked, m.counts.items) refl
 follows_is entries s (Part part) m = part_is entries s part m.counts
 
--- a test of a stage, after an entry that sets the stage of one sale
-tested : (t : Option Stage → Bool) (p : TermEntry → Bool) (entries : List TermEntry) (entry : TermEntry) (o new : Option Stage) (v : Stage) (same : Bool)
-    → t o ≡ list_any p entries → new ≡ cond same (Some v) o → (same ≡ true → t (Some v) ≡ (t o || p entry)) → (same ≡ false → p entry ≡ false)
-    → t new ≡ list_any p (entries ++ entry ∷ [])
-tested t p entries entry o new v same old is here other =
-    let all : list_any p (entries ++ entry ∷ []) ≡ (t o || p entry) = list_any-append p entries (entry ∷ []) ∙ (ap (λ b. list_any p entries || b) (or-false (p entry)) ∙ ap (λ b. b || p entry) (sym old)) in
-    ⊎_elim
-    (λ yes. ap t (is ∙ cond-true same _ _ yes) ∙ (here yes ∙ sym all))
-    (λ unequal. ap t (is ∙ cond-false same _ _ unequal) ∙ (sym (or-false (t o)) ∙ (ap (λ b. t o || b) (sym (other unequal)) ∙ sym all)))
-    (cases_Bool same)
-
--- a test that one more entry leaves
-untouched : (p : TermEntry → Bool) (entries : List TermEntry) (entry : TermEntry) (b : Bool) → b ≡ list_any p entries → p entry ≡ false → b ≡ list_any p (entries ++ entry ∷ [])
-untouched p entries entry b old none = old ∙ (sym (or-false (list_any p entries)) ∙ (ap (λ c. list_any p entries || c) (sym (ap (λ d. d || false) none)) ∙ sym (list_any-append p entries (entry ∷ []))))
-
 -- an entry of no sale
 stages_other : (entries : List TermEntry) (entry : TermEntry) (sales : List Stage) → Stages entries sales
     → ((n : ℕ) → is_begin n entry ≡ false) → ((n : ℕ) → ends n entry ≡ false) → ((n : ℕ) → completes n entry ≡ false) → ((n : ℕ) → cancels n entry ≡ false)
@@ -225,10 +211,10 @@ stages_begin entries amount account sales m =
     let entry : TermEntry = Begin (length sales + 1) amount account in
     let none : (n : ℕ) → (length sales + 1 == n) ≡ true → stage_of sales n ≡ None = λ n yes. subst (λ j. stage_of sales j ≡ None) (eqb-true (length sales + 1) n yes) (stage_past sales) in
     record {
-      begins = λ n. tested is_begun (is_begin n) entries entry (stage_of sales n) _ Pending (length sales + 1 == n) (m.begins n) (stage-push sales Pending n) (λ yes. rw (none n yes, yes) refl) (λ unequal. unequal);
-      ended = λ n. tested is_ended (ends n) entries entry (stage_of sales n) _ Pending (length sales + 1 == n) (m.ended n) (stage-push sales Pending n) (λ yes. rw (none n yes) refl) (λ unequal. refl);
-      completed = λ n. tested was_completed (completes n) entries entry (stage_of sales n) _ Pending (length sales + 1 == n) (m.completed n) (stage-push sales Pending n) (λ yes. rw (none n yes) refl) (λ unequal. refl);
-      cancelled = λ n. tested was_cancelled (cancels n) entries entry (stage_of sales n) _ Pending (length sales + 1 == n) (m.cancelled n) (stage-push sales Pending n) (λ yes. rw (none n yes) refl) (λ unequal. refl);
+      begins = λ n. tested is_begun (is_begin n) entries entry (stage_of sales n) _ (Some Pending) (length sales + 1 == n) (m.begins n) (stage-push sales Pending n) (λ yes. rw (none n yes, yes) refl) (λ unequal. unequal);
+      ended = λ n. tested is_ended (ends n) entries entry (stage_of sales n) _ (Some Pending) (length sales + 1 == n) (m.ended n) (stage-push sales Pending n) (λ yes. rw (none n yes) refl) (λ unequal. refl);
+      completed = λ n. tested was_completed (completes n) entries entry (stage_of sales n) _ (Some Pending) (length sales + 1 == n) (m.completed n) (stage-push sales Pending n) (λ yes. rw (none n yes) refl) (λ unequal. refl);
+      cancelled = λ n. tested was_cancelled (cancels n) entries entry (stage_of sales n) _ (Some Pending) (length sales + 1 == n) (m.cancelled n) (stage-push sales Pending n) (λ yes. rw (none n yes) refl) (λ unequal. refl);
     }
 
 moved : (sales : List Stage) (k n : ℕ) (w : Stage) → stage_of sales k ≡ Some w → (k == n) ≡ true → stage_of sales n ≡ Some w
@@ -238,40 +224,40 @@ stages_declined : (entries : List TermEntry) (k : ℕ) (sales : List Stage) → 
     → Stages (entries ++ Declined k ∷ []) (set_stage sales k Stage_declined)
 stages_declined entries k sales at m =
     record {
-      begins = λ n. tested is_begun (is_begin n) entries (Declined k) (stage_of sales n) _ Stage_declined (k == n) (m.begins n) (stage-set sales k Stage_declined n Pending at) (λ yes. rw (moved sales k n Pending at yes) refl) (λ unequal. refl);
-      ended = λ n. tested is_ended (ends n) entries (Declined k) (stage_of sales n) _ Stage_declined (k == n) (m.ended n) (stage-set sales k Stage_declined n Pending at) (λ yes. rw (moved sales k n Pending at yes, yes) refl) (λ unequal. unequal);
-      completed = λ n. tested was_completed (completes n) entries (Declined k) (stage_of sales n) _ Stage_declined (k == n) (m.completed n) (stage-set sales k Stage_declined n Pending at) (λ yes. rw (moved sales k n Pending at yes) refl) (λ unequal. refl);
-      cancelled = λ n. tested was_cancelled (cancels n) entries (Declined k) (stage_of sales n) _ Stage_declined (k == n) (m.cancelled n) (stage-set sales k Stage_declined n Pending at) (λ yes. rw (moved sales k n Pending at yes) refl) (λ unequal. refl);
+      begins = λ n. tested is_begun (is_begin n) entries (Declined k) (stage_of sales n) _ (Some Stage_declined) (k == n) (m.begins n) (stage-set sales k Stage_declined n Pending at) (λ yes. rw (moved sales k n Pending at yes) refl) (λ unequal. refl);
+      ended = λ n. tested is_ended (ends n) entries (Declined k) (stage_of sales n) _ (Some Stage_declined) (k == n) (m.ended n) (stage-set sales k Stage_declined n Pending at) (λ yes. rw (moved sales k n Pending at yes, yes) refl) (λ unequal. unequal);
+      completed = λ n. tested was_completed (completes n) entries (Declined k) (stage_of sales n) _ (Some Stage_declined) (k == n) (m.completed n) (stage-set sales k Stage_declined n Pending at) (λ yes. rw (moved sales k n Pending at yes) refl) (λ unequal. refl);
+      cancelled = λ n. tested was_cancelled (cancels n) entries (Declined k) (stage_of sales n) _ (Some Stage_declined) (k == n) (m.cancelled n) (stage-set sales k Stage_declined n Pending at) (λ yes. rw (moved sales k n Pending at yes) refl) (λ unequal. refl);
     }
 
 stages_completed : (entries : List TermEntry) (k : ℕ) (code : List ℕ) (sales : List Stage) → stage_of sales k ≡ Some Pending → Stages entries sales
     → Stages (entries ++ Completed k code ∷ []) (set_stage sales k Stage_completed)
 stages_completed entries k code sales at m =
     record {
-      begins = λ n. tested is_begun (is_begin n) entries (Completed k code) (stage_of sales n) _ Stage_completed (k == n) (m.begins n) (stage-set sales k Stage_completed n Pending at) (λ yes. rw (moved sales k n Pending at yes) refl) (λ unequal. refl);
-      ended = λ n. tested is_ended (ends n) entries (Completed k code) (stage_of sales n) _ Stage_completed (k == n) (m.ended n) (stage-set sales k Stage_completed n Pending at) (λ yes. rw (moved sales k n Pending at yes, yes) refl) (λ unequal. unequal);
-      completed = λ n. tested was_completed (completes n) entries (Completed k code) (stage_of sales n) _ Stage_completed (k == n) (m.completed n) (stage-set sales k Stage_completed n Pending at) (λ yes. rw (moved sales k n Pending at yes, yes) refl) (λ unequal. unequal);
-      cancelled = λ n. tested was_cancelled (cancels n) entries (Completed k code) (stage_of sales n) _ Stage_completed (k == n) (m.cancelled n) (stage-set sales k Stage_completed n Pending at) (λ yes. rw (moved sales k n Pending at yes) refl) (λ unequal. refl);
+      begins = λ n. tested is_begun (is_begin n) entries (Completed k code) (stage_of sales n) _ (Some Stage_completed) (k == n) (m.begins n) (stage-set sales k Stage_completed n Pending at) (λ yes. rw (moved sales k n Pending at yes) refl) (λ unequal. refl);
+      ended = λ n. tested is_ended (ends n) entries (Completed k code) (stage_of sales n) _ (Some Stage_completed) (k == n) (m.ended n) (stage-set sales k Stage_completed n Pending at) (λ yes. rw (moved sales k n Pending at yes, yes) refl) (λ unequal. unequal);
+      completed = λ n. tested was_completed (completes n) entries (Completed k code) (stage_of sales n) _ (Some Stage_completed) (k == n) (m.completed n) (stage-set sales k Stage_completed n Pending at) (λ yes. rw (moved sales k n Pending at yes, yes) refl) (λ unequal. unequal);
+      cancelled = λ n. tested was_cancelled (cancels n) entries (Completed k code) (stage_of sales n) _ (Some Stage_completed) (k == n) (m.cancelled n) (stage-set sales k Stage_completed n Pending at) (λ yes. rw (moved sales k n Pending at yes) refl) (λ unequal. refl);
     }
 
 stages_voided : (entries : List TermEntry) (k : ℕ) (sales : List Stage) → stage_of sales k ≡ Some Pending → Stages entries sales
     → Stages (entries ++ Voided k ∷ []) (set_stage sales k Stage_voided)
 stages_voided entries k sales at m =
     record {
-      begins = λ n. tested is_begun (is_begin n) entries (Voided k) (stage_of sales n) _ Stage_voided (k == n) (m.begins n) (stage-set sales k Stage_voided n Pending at) (λ yes. rw (moved sales k n Pending at yes) refl) (λ unequal. refl);
-      ended = λ n. tested is_ended (ends n) entries (Voided k) (stage_of sales n) _ Stage_voided (k == n) (m.ended n) (stage-set sales k Stage_voided n Pending at) (λ yes. rw (moved sales k n Pending at yes, yes) refl) (λ unequal. unequal);
-      completed = λ n. tested was_completed (completes n) entries (Voided k) (stage_of sales n) _ Stage_voided (k == n) (m.completed n) (stage-set sales k Stage_voided n Pending at) (λ yes. rw (moved sales k n Pending at yes) refl) (λ unequal. refl);
-      cancelled = λ n. tested was_cancelled (cancels n) entries (Voided k) (stage_of sales n) _ Stage_voided (k == n) (m.cancelled n) (stage-set sales k Stage_voided n Pending at) (λ yes. rw (moved sales k n Pending at yes) refl) (λ unequal. refl);
+      begins = λ n. tested is_begun (is_begin n) entries (Voided k) (stage_of sales n) _ (Some Stage_voided) (k == n) (m.begins n) (stage-set sales k Stage_voided n Pending at) (λ yes. rw (moved sales k n Pending at yes) refl) (λ unequal. refl);
+      ended = λ n. tested is_ended (ends n) entries (Voided k) (stage_of sales n) _ (Some Stage_voided) (k == n) (m.ended n) (stage-set sales k Stage_voided n Pending at) (λ yes. rw (moved sales k n Pending at yes, yes) refl) (λ unequal. unequal);
+      completed = λ n. tested was_completed (completes n) entries (Voided k) (stage_of sales n) _ (Some Stage_voided) (k == n) (m.completed n) (stage-set sales k Stage_voided n Pending at) (λ yes. rw (moved sales k n Pending at yes) refl) (λ unequal. refl);
+      cancelled = λ n. tested was_cancelled (cancels n) entries (Voided k) (stage_of sales n) _ (Some Stage_voided) (k == n) (m.cancelled n) (stage-set sales k Stage_voided n Pending at) (λ yes. rw (moved sales k n Pending at yes) refl) (λ unequal. refl);
     }
 
 stages_cancelled : (entries : List TermEntry) (k : ℕ) (sales : List Stage) → stage_of sales k ≡ Some Stage_completed → Stages entries sales
     → Stages (entries ++ Cancelled k ∷ []) (set_stage sales k Stage_cancelled)
 stages_cancelled entries k sales at m =
     record {
-      begins = λ n. tested is_begun (is_begin n) entries (Cancelled k) (stage_of sales n) _ Stage_cancelled (k == n) (m.begins n) (stage-set sales k Stage_cancelled n Stage_completed at) (λ yes. rw (moved sales k n Stage_completed at yes) refl) (λ unequal. refl);
-      ended = λ n. tested is_ended (ends n) entries (Cancelled k) (stage_of sales n) _ Stage_cancelled (k == n) (m.ended n) (stage-set sales k Stage_cancelled n Stage_completed at) (λ yes. rw (moved sales k n Stage_completed at yes) refl) (λ unequal. refl);
-      completed = λ n. tested was_completed (completes n) entries (Cancelled k) (stage_of sales n) _ Stage_cancelled (k == n) (m.completed n) (stage-set sales k Stage_cancelled n Stage_completed at) (λ yes. rw (moved sales k n Stage_completed at yes) refl) (λ unequal. refl);
-      cancelled = λ n. tested was_cancelled (cancels n) entries (Cancelled k) (stage_of sales n) _ Stage_cancelled (k == n) (m.cancelled n) (stage-set sales k Stage_cancelled n Stage_completed at) (λ yes. rw (moved sales k n Stage_completed at yes, yes) refl) (λ unequal. unequal);
+      begins = λ n. tested is_begun (is_begin n) entries (Cancelled k) (stage_of sales n) _ (Some Stage_cancelled) (k == n) (m.begins n) (stage-set sales k Stage_cancelled n Stage_completed at) (λ yes. rw (moved sales k n Stage_completed at yes) refl) (λ unequal. refl);
+      ended = λ n. tested is_ended (ends n) entries (Cancelled k) (stage_of sales n) _ (Some Stage_cancelled) (k == n) (m.ended n) (stage-set sales k Stage_cancelled n Stage_completed at) (λ yes. rw (moved sales k n Stage_completed at yes) refl) (λ unequal. refl);
+      completed = λ n. tested was_completed (completes n) entries (Cancelled k) (stage_of sales n) _ (Some Stage_cancelled) (k == n) (m.completed n) (stage-set sales k Stage_cancelled n Stage_completed at) (λ yes. rw (moved sales k n Stage_completed at yes) refl) (λ unequal. refl);
+      cancelled = λ n. tested was_cancelled (cancels n) entries (Cancelled k) (stage_of sales n) _ (Some Stage_cancelled) (k == n) (m.cancelled n) (stage-set sales k Stage_cancelled n Stage_completed at) (λ yes. rw (moved sales k n Stage_completed at yes, yes) refl) (λ unequal. unequal);
     }
 
 -- the stages after an entry that is allowed

@@ -6,6 +6,7 @@ mod host;
 mod judge;
 mod lists;
 mod rows;
+mod sale_end;
 mod stage;
 mod terminal;
 

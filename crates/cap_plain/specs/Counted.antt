@@ -15,7 +15,7 @@ use Rattle.cap_base.specs.declared.item.Item.TheVariants.{Sale, Void, Cancel, Cl
 use Rattle.cap_base.specs.Item.{is_end, is_cancel, is_sale_where, is_sale_of, sale_count, cancel_count}
 use Rattle.cap_base.specs.Captured.{before_close, after_close, period_items}
 use Rattle.cap_base.specs.Fits.{is_number, fits, all_fit}
-use Rattle.cap_plain.specs.FitsLaws.{along_fits}
+use Rattle.cap_entries.specs.FitsLaws.{along_fits}
 use Rattle.cap_plain.specs.Once.{end_new, cancel_new}
 
 abbrev pub sale_number : Item → List ℕ

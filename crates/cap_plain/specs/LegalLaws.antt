@@ -19,7 +19,7 @@ use Rattle.cap_entries.specs.Items.{items_after, items_from, items}
 use Rattle.cap_plain.specs.KeptSales.{sale_of, sales_from}
 use Rattle.cap_entries.specs.Allowed.{allowed, all_allowed}
 use Rattle.cap_plain.specs.KeptLaws.{captured_items}
-use Rattle.cap_plain.specs.FitsLaws.{all_fit-append}
+use Rattle.cap_entries.specs.FitsLaws.{all_fit-append}
 use Rattle.cap_entries.specs.AllowedLaws.{along, allowed_is}
 use Rattle.cap_entries.specs.ItemsLaws.{items-push}
 

@@ -3,6 +3,7 @@
 
 mod first;
 mod host;
+mod host_judge;
 mod judge;
 mod lists;
 mod log_judge;
@@ -13,6 +14,7 @@ mod terminal;
 
 pub use first::first_not_allowed;
 pub use host::{HostEntry, HostSetup};
+pub use host_judge::HostJudge;
 pub use judge::TermJudge;
 pub use lists::{Blocks, Idents};
 pub use rows::{RowFault, RowSet};

@@ -12,7 +12,7 @@ mod sale_end;
 mod stage;
 mod terminal;
 
-pub use first::first_not_allowed;
+pub use first::{first_host_not_allowed, first_not_allowed};
 pub use host::{HostEntry, HostSetup};
 pub use host_judge::HostJudge;
 pub use judge::TermJudge;

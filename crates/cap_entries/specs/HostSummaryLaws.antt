@@ -40,7 +40,7 @@ no_log_there (suc m) zero = refl
 no_log_there (suc m) (suc i) = no_log_there m i
 
 -- the log of a terminal with one entry more
-log-push : (entries : List HostEntry) (entry : HostEntry) (place : ℕ) → log (entries ++ entry ∷ []) place ≡ log entries place ++ item_from place entry
+pub log-push : (entries : List HostEntry) (entry : HostEntry) (place : ℕ) → log (entries ++ entry ∷ []) place ≡ log entries place ++ item_from place entry
 log-push entries entry place = log-append entries (entry ∷ []) place ∙ ap (λ l. log entries place ++ l) (append-nil (item_from place entry))
 
 -- an entry that is no item of the terminal

@@ -2,6 +2,7 @@
 #![tactic(auto)]
 
 mod first;
+mod floor;
 mod host;
 mod host_judge;
 mod judge;
@@ -13,6 +14,7 @@ mod stage;
 mod terminal;
 
 pub use first::{first_host_not_allowed, first_not_allowed};
+pub use floor::floor_row;
 pub use host::{HostEntry, HostSetup};
 pub use host_judge::HostJudge;
 pub use judge::TermJudge;

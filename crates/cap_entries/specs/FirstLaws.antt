@@ -67,3 +67,12 @@ host_refused-take entries i d h ok =
 
 pub legal_host-take : (entries : List HostEntry) (i : ℕ) (d : HostEntry) → i < length entries → host_allowed (take i entries) (get_or entries i d) ≡ true → all_host_allowed [] (take i entries) ≡ true → all_host_allowed [] (take (i + 1) entries) ≡ true
 legal_host-take entries i d h ok legal = ap (all_host_allowed []) (take_more entries i d h) ∙ all_host_allowed-append [] (take i entries) (get_or entries i d ∷ []) legal (and_from _ _ ok refl)
+
+-- and all of their entries are allowed
+pub none_all : (entries : List TermEntry) → first_not_allowed entries ≡ None → all_allowed [] entries ≡ true
+none_all [] e = refl
+none_all (entry ∷ entries) e = none_refused [] (entry ∷ entries) e
+
+pub none_all_host : (entries : List HostEntry) → first_host_not_allowed entries ≡ None → all_host_allowed [] entries ≡ true
+none_all_host [] e = refl
+none_all_host (entry ∷ entries) e = none_host_refused [] (entry ∷ entries) e

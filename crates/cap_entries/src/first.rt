@@ -1,6 +1,6 @@
-ghost use Rattle.std.specs.Prelude.{◌≡◌, ◌↔◌, None, IfOk};
-ghost use Rattle.cap_entries.specs.Allowed.{Legal};
-ghost use Rattle.cap_entries.specs.HostAllowed.{LegalHost};
+ghost use Rattle.std.specs.Prelude.{◌≡◌, ◌↔◌, [], true, None, IfOk};
+ghost use Rattle.cap_entries.specs.Allowed.{Legal, all_allowed};
+ghost use Rattle.cap_entries.specs.HostAllowed.{LegalHost, all_host_allowed};
 ghost use Rattle.cap_entries.specs.FirstNotAllowed.{first_not_allowed, first_host_not_allowed};
 
 use crate::host::HostEntry;
@@ -31,6 +31,7 @@ fn first_of(alloc: Global, entries: &[TermEntry]) -> Result<Option<usize>, Memor
 pub fn first_not_allowed(alloc: Global, entries: &[TermEntry]) -> Result<Option<usize>, Memory>
     ensures exact { IfOk result (λ first. first ≡ first_not_allowed entries.now) }
     ensures legal { IfOk result (λ first. (first ≡ None) ↔ Legal entries.now) }
+    ensures allowed { IfOk result (λ first. first ≡ None → all_allowed [] entries.now ≡ true) }
 {
     first_of(alloc, entries)
 }
@@ -56,6 +57,7 @@ fn first_host_of(alloc: Global, entries: &[HostEntry]) -> Result<Option<usize>, 
 pub fn first_host_not_allowed(alloc: Global, entries: &[HostEntry]) -> Result<Option<usize>, Memory>
     ensures exact { IfOk result (λ first. first ≡ first_host_not_allowed entries.now) }
     ensures legal { IfOk result (λ first. (first ≡ None) ↔ LegalHost entries.now) }
+    ensures allowed { IfOk result (λ first. first ≡ None → all_host_allowed [] entries.now ≡ true) }
 {
     first_host_of(alloc, entries)
 }

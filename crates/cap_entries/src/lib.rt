@@ -12,6 +12,8 @@ mod rows;
 mod sale_end;
 mod stage;
 mod terminal;
+#[cfg(test)]
+mod tests;
 
 pub use first::{first_host_not_allowed, first_not_allowed};
 pub use floor::floor_row;

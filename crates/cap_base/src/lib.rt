@@ -11,6 +11,8 @@ mod number;
 mod parameters;
 mod sink;
 mod source;
+#[cfg(test)]
+mod tests;
 mod text;
 
 pub use amount::{Amount, Money, read_decimal};

@@ -1,4 +1,4 @@
-ghost use Rattle.std.specs.Prelude.{◌≡◌, ℕ, List, [], Option, Some, OnOk};
+ghost use Rattle.std.specs.Prelude.{◌≡◌, ℕ, List, [], Option, Some, OnOk, OnErr};
 ghost use Rattle.std.specs.Bool.{OnTrue, OnFalse};
 ghost use Rattle.std.specs.Io.KnownBytes.{Appends};
 ghost use Rattle.cap_base.specs.Causes.{HasPutCause};
@@ -81,7 +81,7 @@ impl<W: Write> Sink for StdSink<W> {
     }
 }
 
-/// Bytes in memory. It fails at exactly the calls that are named to it.
+/// Bytes in memory. It answers `Failed` at exactly the calls that are named to it.
 #[derive(Drop)]
 pub struct MemSink {
     bytes: Vec<u8>,
@@ -91,9 +91,12 @@ pub struct MemSink {
 }
 
 impl MemSink {
+    ghost use Rattle.cap_base.specs.Memory.{put_of, sink_named_of, sink_calls_after};
+
+    /// A sink that holds nothing.
     pub fn new(alloc: Global) -> MemSink
-        ensures bytes { result.bytes.items ≡ [] }
-        ensures named { result.named.items ≡ [] }
+        ensures bytes { put_of result ≡ [] }
+        ensures named { sink_named_of result ≡ [] }
     {
         MemSink {
             bytes: Vec::new(alloc),
@@ -105,15 +108,18 @@ impl MemSink {
 
     /// What was put.
     pub fn bytes(&self) -> &[u8]
-        ensures { result.now ≡ self.now.bytes.items }
+        ensures { result.now ≡ put_of self.now }
     {
         &self.bytes
     }
 
-    /// Lets these calls fail, counted from 1 since this call.
+    /// Lets these calls fail, counted from 1 since this call, in place of those that were named before. Without memory nothing changes.
     pub fn fail_at(&mut self, calls: &[u64]) -> Result<(), Memory>
-        ensures named { OnOk result (self.new.named.items ≡ calls.now) }
-        ensures bytes { self.new.bytes.items ≡ self.old.bytes.items }
+        ensures named { OnOk result (sink_named_of self.new ≡ calls.now) }
+        ensures counted { OnOk result (sink_calls_after self.new ≡ 1) }
+        ensures bytes { put_of self.new ≡ put_of self.old }
+        ensures faults { self.new.faults ≡ self.old.faults }
+        ensures refused { OnErr result (self.new ≡ self.old) }
     {
         let Ok(named) = Vec::from_slice(*self.named.allocator(), calls) else {
             return Err(Memory);
@@ -125,11 +131,22 @@ impl MemSink {
 }
 
 impl Sink for MemSink {
+    ghost use Rattle.std.specs.Prelude.{◌≡◌, ◌↔◌, [], Some, IsErrOf, Contains};
+    ghost use Rattle.cap_base.specs.declared.sink.PutError.TheVariants.{Failed};
+    ghost use Rattle.cap_base.specs.Causes.{HasPutCause};
+    ghost use Rattle.cap_base.specs.Streams.{PutAppends};
+    ghost use Rattle.cap_base.specs.Memory.{put_of, sink_named_of, sink_calls_after};
+
     ghost contents = { λ s. Some s.bytes.items };
 
     ghost faults = { λ s. s.faults };
 
-    fn put(&mut self, bytes: &[u8]) -> Result<(), PutError> {
+    fn put(&mut self, bytes: &[u8]) -> Result<(), PutError>
+        ensures bytes { PutAppends (Some (put_of self.old)) (Some (put_of self.new)) result bytes.now }
+        ensures cause { HasPutCause self.old.faults self.new.faults result }
+        ensures named { IsErrOf result Failed ↔ Contains (sink_named_of self.old) (sink_calls_after self.old) }
+        ensures quiet { (sink_named_of self.old ≡ []) → self.new.faults ≡ self.old.faults }
+    {
         self.calls = self.calls.saturating_add(1);
         if self.named.contains(&self.calls) {
             self.faults = self.faults.saturating_add(1);

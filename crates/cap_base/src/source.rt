@@ -1,4 +1,4 @@
-ghost use Rattle.std.specs.Prelude.{◌≡◌, ◌<◌, ◌≤◌, ◌↔◌, ℕ, List, [], length, Option, Some, IsErr, OnOk, Contains, drop, take, min};
+ghost use Rattle.std.specs.Prelude.{◌≡◌, ◌<◌, ◌≤◌, ◌↔◌, ℕ, List, [], length, Option, Some, IsErr, OnOk, OnErr, Contains, drop, take, min};
 ghost use Rattle.std.specs.Io.{ReadsAtMost};
 ghost use Rattle.std.specs.Io.KnownBytes.{ReadConsumes};
 ghost use Rattle.cap_base.specs.Causes.{HasCause};
@@ -18,7 +18,8 @@ pub trait Source {
     /// How often a call has failed.
     ghost faults: { Self → ℕ };
 
-    /// Takes the next bytes. 0 means the end.
+    /// Takes the next bytes, and tells how many. 0 means the end, and comes exactly where nothing is left, for a source that tells what is
+    /// left. After `Failed` what is left is as before.
     fn take(&mut self, buf: &mut [u8]) -> Result<usize, Failed>
         requires { 0 < length buf.old }
         ensures bound { ReadsAtMost result buf.new }
@@ -82,7 +83,7 @@ pub struct MemSource {
 }
 
 impl MemSource {
-    ghost use Rattle.cap_base.specs.Memory.{left_of, named_of};
+    ghost use Rattle.cap_base.specs.Memory.{left_of, named_of, calls_after};
 
     /// A source of these bytes.
     pub fn new(alloc: Global, bytes: Vec<u8>) -> MemSource
@@ -98,10 +99,13 @@ impl MemSource {
         }
     }
 
-    /// Lets these calls fail, counted from 1 since this call.
+    /// Lets these calls fail, counted from 1 since this call, in place of those that were named before. Without memory nothing changes.
     pub fn fail_at(&mut self, calls: &[u64]) -> Result<(), Memory>
         ensures named { OnOk result (named_of self.new ≡ calls.now) }
+        ensures counted { OnOk result (calls_after self.new ≡ 1) }
         ensures left { left_of self.new ≡ left_of self.old }
+        ensures faults { self.new.faults ≡ self.old.faults }
+        ensures refused { OnErr result (self.new ≡ self.old) }
     {
         let Ok(named) = Vec::from_slice(*self.named.allocator(), calls) else {
             return Err(Memory);

@@ -1,4 +1,4 @@
-ghost use Rattle.std.specs.Prelude.{◌≡◌, ◌≤◌, ℕ, true, List, length, take};
+ghost use Rattle.std.specs.Prelude.{◌≡◌, ◌≤◌, ℕ, true, List, length, take, codes};
 ghost use Rattle.std.specs.List.{list_all};
 ghost use Rattle.std.specs.Char.{is_ascii_digit};
 ghost use Rattle.std.specs.Str.{bytes_eq};
@@ -186,6 +186,13 @@ impl Account {
 }
 
 impl Code6 {
+    /// The code of a sale that was approved without the host: `OFFLIN`.
+    pub fn offline() -> Code6
+        ensures { result ≡ codes "OFFLIN" }
+    {
+        Code6 { bytes: *b"OFFLIN" }
+    }
+
     /// Reads a code. None where the text is no spelling of one.
     pub fn read(text: &[u8]) -> Option<Code6>
         ensures { result ≡ code6_of text.now }

@@ -1,0 +1,4 @@
+pub mod Deliveries
+pub mod Splitting
+pub mod OtherLines
+pub mod Repeats

@@ -1,0 +1,4 @@
+pub mod Blocks
+pub mod Language
+pub mod Model
+pub mod Report

@@ -341,7 +341,8 @@ fn row_sets_are_made(rt: HostRuntime) -> Result<(), Fail> {
     let b = row(b"B", b"1").ok_or("row")?;
     let again = row(b"A", b"2").ok_or("row")?;
     assert_eq!(rt; RowSet::new(Vec::new(alloc)).err(), Some(RowFault::Empty));
-    let many = vec![in alloc; a; 257]?;
+    let mut many = Vec::new(alloc);
+    many.resize(257, a)?;
     assert_eq!(rt; RowSet::new(many).err(), Some(RowFault::TooMany(257)));
     let repeated = Vec::from_slice(alloc, &[a, b, again, a])?;
     assert_eq!(rt; RowSet::new(repeated).err(), Some(RowFault::Repeated(2)));

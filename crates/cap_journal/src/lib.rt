@@ -1,0 +1,12 @@
+//! Journals: lists of entries that a crash leaves whole.
+#![tactic(auto)]
+
+mod journal;
+mod record;
+mod spare;
+mod vec_journal;
+
+pub use journal::{Journal, JournalError, OpenFault, Reopen};
+pub use record::Record;
+pub use spare::Spare;
+pub use vec_journal::VecJournal;

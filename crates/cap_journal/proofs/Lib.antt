@@ -1,0 +1,5 @@
+pub mod Groups
+pub mod Readings
+pub mod Sizes
+pub mod Writes
+pub mod Appending

@@ -36,3 +36,8 @@ pub record IsOpened (front group image : List ℕ) : Type 0 where
 -- what a crash may leave of a group that is written behind the gate after these bytes
 abbrev pub HasGateOrGroup : List ℕ → ℕ → List ℕ → List ℕ → Type 0
 HasGateOrGroup front gate group image = HasGate front gate image ⊎ HasGroup front group image
+
+-- the records of these entries, one behind the other
+abbrev pub joined : {E : Type 0} → (E → List ℕ) → List E → List ℕ
+joined bytes_of [] = []
+joined bytes_of (e ∷ es) = bytes_of e ++ joined bytes_of es

@@ -1,7 +1,10 @@
 //! Journals: lists of entries that a crash leaves whole.
 #![tactic(auto)]
 
+mod append;
+mod group;
 mod journal;
+mod open;
 mod record;
 mod spare;
 mod vec_journal;

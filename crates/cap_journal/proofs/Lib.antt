@@ -3,3 +3,4 @@ pub mod Readings
 pub mod Sizes
 pub mod Writes
 pub mod Appending
+pub mod Counting

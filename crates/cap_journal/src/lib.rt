@@ -2,13 +2,16 @@
 #![tactic(auto)]
 
 mod append;
+mod disk_journal;
 mod group;
 mod journal;
 mod open;
 mod record;
+mod settle;
 mod spare;
 mod vec_journal;
 
+pub use disk_journal::DiskJournal;
 pub use journal::{Journal, JournalError, OpenFault, Reopen};
 pub use record::Record;
 pub use spare::Spare;

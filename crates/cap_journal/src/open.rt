@@ -117,6 +117,7 @@ pub fn read_groups<E: Record>(alloc: Global, image: &[u8], entries: &mut Vec<E>,
     ensures not_disk { IsErrOf result OpenFault.Disk → ⊥ }
     ensures formatted { IsErrOf result OpenFault.NotFormatted → ⊥ }
     ensures within { IfOk result (λ end. end < length image.now) }
+    ensures gates { OnOk result (length gates.new.items ≡ length entries.new.items) }
 {
     let mut place = 0;
     while image[place] == OPEN {

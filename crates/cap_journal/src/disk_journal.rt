@@ -1,0 +1,214 @@
+// A journal over a disk, which keeps its entries in memory.
+ghost use Rattle.std.specs.Prelude.{◌≡◌, ◌≤◌, ◌<◌, ◌+◌, ◌*◌, ◌^◌, ℕ, List, [], length, Bool, false, Option, Some, IsTrue, vec_len, vec_capacity};
+ghost use Rattle.std.specs.Coded.{Coded-set, coded_option, coded_list, coded_ℕ, Π_prop};
+ghost use Rattle.cap_disk.specs.Disk.{HasRoom};
+ghost use Rattle.cap_journal.specs.File.{entries_found, gates_found, end_found, journal_of};
+ghost use Rattle.cap_journal.specs.Spare.{bytes_for, entries_for};
+
+use crate::append::write_entries;
+use crate::{Journal, JournalError, Record, Spare};
+use cap_base::Memory;
+use cap_disk::Disk;
+use std::alloc::Global;
+
+// More entries are not reserved.
+const MOST: u64 = 1 << 40;
+
+// Behind this place nothing is reserved.
+const FAR: u64 = 1 << 60;
+
+// The bytes of the largest group with the gate behind it.
+const LARGEST: usize = 65_541;
+
+/// A journal over a disk, which keeps its entries in memory.
+#[derive(Drop)]
+pub struct DiskJournal<E: Record, D: Disk> {
+    alloc: Global,
+    disk: D,
+    entries: Vec<E>,
+    /// The gate of the group of each entry.
+    gates: Vec<u64>,
+    /// The last gate.
+    end: u64,
+    buffer: Vec<u8>,
+    spare: Spare,
+    fetched: u64,
+    failed: bool,
+    ghost written: { IsTrue (D.tells disk) → failed ≡ false → (D.contents disk).written ≡ [] },
+    ghost synced: { IsTrue (D.tells disk) → failed ≡ false → (D.contents disk).synced ≡ (D.contents disk).shown },
+    ghost parsed: { IsTrue (D.tells disk) → failed ≡ false → entries_found (journal_of E.reading (D.contents disk).shown) ≡ Some entries.items } by { Π_prop (λ _. Π_prop (λ _. Coded-set (coded_option (coded_list E.code)) _ _)) },
+    ghost placed: { IsTrue (D.tells disk) → failed ≡ false → gates_found (journal_of E.reading (D.contents disk).shown) ≡ Some gates.items } by { Π_prop (λ _. Π_prop (λ _. Coded-set (coded_option (coded_list coded_ℕ)) _ _)) },
+    ghost last_gate: { IsTrue (D.tells disk) → failed ≡ false → end_found (journal_of E.reading (D.contents disk).shown) ≡ Some end },
+    ghost room: { HasRoom (bytes_for spare) (4 * entries_for spare) (D.room disk) },
+    ghost entries_room: { vec_len entries + entries_for spare ≤ vec_capacity entries },
+    ghost gates_room: { length entries.items + entries_for spare ≤ vec_capacity gates },
+    ghost same_length: { length gates.items ≡ length entries.items },
+    ghost buffer_room: { 0 < entries_for spare → 65541 ≤ vec_capacity buffer },
+    ghost short: { end + bytes_for spare < 2 ^ 62 },
+}
+
+impl<E: Record, D: Disk> DiskJournal<E, D> {
+    ghost use Rattle.std.specs.Prelude.{◌≡◌, ◌≤◌, List, IsTrue, OnOk, OnErr};
+    ghost use Rattle.cap_disk.specs.Disk.{MayLeave, LeavesOnly, StaysCounted};
+
+    // Makes room for so many further entries.
+    fn make_spare(&mut self, spare: Spare) -> Result<(), Memory>
+        requires small { self.old.spare.small ≤ spare.small }
+        requires rows { self.old.spare.rows ≤ spare.rows }
+        ensures ok { OnOk result (self.new.spare ≡ spare) }
+        ensures err { OnErr result (self.new.spare ≡ self.old.spare) }
+        ensures entries { self.new.entries.items ≡ self.old.entries.items }
+        ensures fetched { self.new.fetched ≡ self.old.fetched }
+        ensures failed { self.new.failed ≡ self.old.failed }
+        ensures faults { D.faults self.new.disk ≡ D.faults self.old.disk }
+        ensures counts { StaysCounted (D.counts self.old.disk) (D.counts self.new.disk) }
+        ensures tells { D.tells self.new.disk ≡ D.tells self.old.disk }
+        ensures contents { IsTrue (D.tells self.old.disk) → D.contents self.new.disk ≡ D.contents self.old.disk }
+        ensures images { IsTrue (D.tells self.old.disk) → LeavesOnly D.moment D.left_since self.old.disk self.new.disk (MayLeave (D.contents self.old.disk)) }
+    {
+        if spare.small >= MOST || spare.rows >= MOST || self.end >= FAR {
+            return Err(Memory);
+        }
+        let entries = spare.small + spare.rows;
+        if self.entries.reserve(entries as usize).is_err() || self.gates.reserve(entries as usize).is_err() {
+            return Err(Memory);
+        }
+        self.buffer.clear();
+        if self.buffer.reserve(LARGEST).is_err() {
+            return Err(Memory);
+        }
+        self.disk.make_room(78 * spare.small + 65_542 * spare.rows, 4 * entries)?;
+        self.spare = spare;
+        Ok(())
+    }
+}
+
+impl<E: Record, D: Disk> Journal<E> for DiskJournal<E, D> {
+    ghost use Rattle.std.specs.Prelude.{◌≡◌, ◌<◌, ◌≤◌, ◌+◌, ◌++◌, ◌∷◌, List, [], length, map, sum, All, true, false, OnOk, OnErr, IsErrOf, IsTrue};
+    ghost use Rattle.cap_disk.specs.Disk.{MayLeave, LeavesOnly};
+    ghost use Rattle.cap_journal.specs.Spare.{Suffices, Takes};
+    ghost use Rattle.cap_journal.specs.Told.{IsCountedBy, HasAppendCause};
+    ghost use Rattle.cap_journal.specs.File.{HasEither};
+    ghost use Rattle.cap_journal.specs.Kept.{kept_by};
+
+    ghost entries = { λ journal. journal.entries.items };
+
+    ghost spare = { λ journal. journal.spare };
+
+    ghost fetched = { λ journal. journal.fetched };
+
+    ghost faults = { λ journal. D.faults journal.disk };
+
+    ghost counts = { λ journal. D.counts journal.disk };
+
+    ghost has_failed = { λ journal. journal.failed };
+
+    ghost is_readable = { λ _. true };
+
+    ghost tells = { λ journal. D.tells journal.disk };
+
+    ghost shown = { λ journal. (D.contents journal.disk).shown };
+
+    ghost may_leave = { λ journal. MayLeave (D.contents journal.disk) };
+
+    ghost moment = { λ journal. D.moment journal.disk };
+
+    ghost left_since = { λ journal. D.left_since journal.disk };
+
+    ghost kept = { λ journal image tells works left. kept_by E.reading (D.contents journal.disk) journal.entries.items image (journal.written tells works) (journal.synced tells works) (journal.parsed tells works) left };
+
+    ghost counts_now = { λ journal t image tells le left. D.counts_now journal.disk t image tells le left };
+
+    ghost only_now = { λ journal image tells left. D.only_now journal.disk image tells left };
+
+    ghost shows_one = { λ journal tells. D.shows_one journal.disk tells };
+
+    fn count(&self) -> u64 {
+        self.entries.len() as u64
+    }
+
+    fn entry(&mut self, i: u64) -> Result<E, JournalError> {
+        self.fetched = self.fetched.saturating_add(1);
+        match self.entries[i as usize].clone() {
+            Ok(entry) => Ok(entry),
+            Err(_) => Err(JournalError::Memory),
+        }
+    }
+
+    fn reserve(&mut self, n: usize) -> Result<(), Memory> {
+        if n as u64 <= self.spare.small {
+            return Ok(());
+        }
+        self.make_spare(Spare {
+            small: n as u64,
+            rows: self.spare.rows,
+        })
+    }
+
+    fn reserve_rows(&mut self) -> Result<(), Memory> {
+        if self.spare.rows >= 1 {
+            return Ok(());
+        }
+        self.make_spare(Spare {
+            small: self.spare.small,
+            rows: 1,
+        })
+    }
+
+    fn append(&mut self, entry: E) -> Result<(), JournalError> {
+        if self.failed {
+            return Err(JournalError::Failed);
+        }
+        self.spare = self.spare.less_one(entry.size());
+        let from = self.entries.len();
+        self.entries.push_reserved(entry);
+        match write_entries(&mut self.disk, &mut self.buffer, &mut self.entries, &mut self.gates, self.end, from) {
+            Ok(end) => {
+                self.end = end;
+                Ok(())
+            }
+            Err(_) => {
+                self.failed = true;
+                Err(JournalError::Disk)
+            }
+        }
+    }
+
+    fn append_group(&mut self, added: Vec<E>) -> Result<(), JournalError>
+        requires some { 0 < length added.items }
+        requires fits { All (λ entry. IsTrue (E.fits entry)) added.items }
+        requires size { sum (map (λ entry. length (E.bytes_of entry)) added.items) ≤ 65536 }
+        requires spare { Suffices (map (λ entry. length (E.bytes_of entry)) added.items) self.old.spare }
+        ensures ok { OnOk result (self.new.entries.items ≡ self.old.entries.items ++ added.items) }
+        ensures err { OnErr result (self.new.entries.items ≡ self.old.entries.items) }
+        ensures spare { OnOk result (Takes (map (λ entry. length (E.bytes_of entry)) added.items) self.old.spare self.new.spare) }
+        ensures unspent { IsErrOf result JournalError.Failed → self.new.spare ≡ self.old.spare }
+        ensures cause { HasAppendCause self.old.failed self.new.failed (D.faults self.old.disk) (D.faults self.new.disk) result }
+        ensures counts { IsCountedBy 4 self.old.failed (D.counts self.old.disk) (D.counts self.new.disk) result }
+        ensures fetched { self.new.fetched ≡ self.old.fetched }
+        ensures tells { D.tells self.new.disk ≡ D.tells self.old.disk }
+        ensures any_moment { IsTrue (D.tells self.old.disk) → self.old.failed ≡ false → LeavesOnly D.moment D.left_since self.old.disk self.new.disk (HasEither E.reading self.old.entries.items (self.old.entries.items ++ added.items)) }
+        ensures refused { IsTrue (D.tells self.old.disk) → IsErrOf result JournalError.Failed → LeavesOnly D.moment D.left_since self.old.disk self.new.disk (MayLeave (D.contents self.old.disk)) }
+    {
+        if self.failed {
+            return Err(JournalError::Failed);
+        }
+        let mut added = added;
+        self.spare = self.spare.less(added.as_slice());
+        let from = self.entries.len();
+        match self.entries.append(&mut added) {
+            Ok(()) => {}
+            Err(_) => unreachable!(),
+        }
+        match write_entries(&mut self.disk, &mut self.buffer, &mut self.entries, &mut self.gates, self.end, from) {
+            Ok(end) => {
+                self.end = end;
+                Ok(())
+            }
+            Err(_) => {
+                self.failed = true;
+                Err(JournalError::Disk)
+            }
+        }
+    }
+}

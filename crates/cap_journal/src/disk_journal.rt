@@ -6,7 +6,8 @@ ghost use Rattle.cap_journal.specs.File.{entries_found, gates_found, end_found, 
 ghost use Rattle.cap_journal.specs.Spare.{bytes_for, entries_for};
 
 use crate::append::write_entries;
-use crate::{Journal, JournalError, Record, Spare};
+use crate::settle::{Opened, open_disk};
+use crate::{Journal, JournalError, OpenFault, Record, Reopen, Spare};
 use cap_base::Memory;
 use cap_disk::Disk;
 use std::alloc::Global;
@@ -81,6 +82,16 @@ impl<E: Record, D: Disk> DiskJournal<E, D> {
         self.spare = spare;
         Ok(())
     }
+}
+
+/// What stands on a disk.
+pub trait OnDisk<D> {
+    /// The disk.
+    ghost disk: { Self → D };
+}
+
+impl<E: Record, D: Disk> OnDisk<D> for DiskJournal<E, D> {
+    ghost disk = { λ journal. journal.disk };
 }
 
 impl<E: Record, D: Disk> Journal<E> for DiskJournal<E, D> {
@@ -210,5 +221,113 @@ impl<E: Record, D: Disk> Journal<E> for DiskJournal<E, D> {
                 Err(JournalError::Disk)
             }
         }
+    }
+}
+
+impl<E: Record, D: Disk> Reopen<E> for DiskJournal<E, D> {
+    fn reopen(&mut self) -> Result<(), OpenFault> {
+        let bytes = 78 * self.spare.small + 65_542 * self.spare.rows;
+        let calls = 4 * (self.spare.small + self.spare.rows);
+        match open_disk(self.alloc, &mut self.disk, bytes, calls) {
+            Ok(Opened { entries, gates, end }) => {
+                self.entries = entries;
+                self.gates = gates;
+                self.end = end;
+                self.spare = Spare::NONE;
+                self.failed = false;
+                Ok(())
+            }
+            Err(OpenFault::Disk) => {
+                self.failed = true;
+                Err(OpenFault::Disk)
+            }
+            Err(fault) => Err(fault),
+        }
+    }
+}
+
+/// A disk that was not opened, and why.
+#[derive(Drop)]
+pub struct OpenError<D: Drop> {
+    pub back: D,
+    pub cause: OpenCause,
+}
+
+/// Why a disk was not opened.
+#[derive(Clone, Copy, Debug, PartialEq, Eq)]
+pub enum OpenCause {
+    /// The disk that was to be formatted has so many bytes.
+    NotEmpty(u64),
+    /// The file has no bytes.
+    NotFormatted,
+    /// The group behind the open gate at this place isn't whole.
+    Damaged(u64),
+    Disk,
+    Memory,
+}
+
+impl<E: Record, D: Disk> DiskJournal<E, D> {
+    ghost use Rattle.std.specs.Prelude.{◌≡◌, ◌≤◌, ◌<◌, ℕ, List, [], length, ⊤, IsTrue, IfOk, IfErr, Some, false};
+    ghost use Rattle.cap_base.specs.Causes.{Rose};
+    ghost use Rattle.cap_disk.specs.Disk.{MayLeave, LeavesOnly};
+    ghost use Rattle.cap_journal.specs.File.{journal_of, Damaged, Has, IsFormatted, place_found};
+    ghost use Rattle.cap_journal.specs.Opening.{IsOpening, StopsAtLength};
+
+    /// Opens a disk that holds a journal's file: one sync, one length, then reads alone.
+    pub fn open(alloc: Global, disk: D) -> Result<DiskJournal<E, D>, OpenError<D>>
+        ensures entries { IsTrue (D.tells disk) → IfOk result (λ journal. Has E.reading (D.contents disk).shown (⟦<DiskJournal<E, D> as Journal<E>>⟧.entries journal)) }
+        ensures works { IfOk result (λ journal. ⟦<DiskJournal<E, D> as Journal<E>>⟧.has_failed journal ≡ false) }
+        ensures fetched { IfOk result (λ journal. ⟦<DiskJournal<E, D> as Journal<E>>⟧.fetched journal ≡ 0) }
+        ensures tells { IfOk result (λ journal. ⟦<DiskJournal<E, D> as Journal<E>>⟧.tells journal ≡ D.tells disk) }
+        ensures shown { IsTrue (D.tells disk) → IfOk result (λ journal. ⟦<DiskJournal<E, D> as Journal<E>>⟧.shown journal ≡ (D.contents disk).shown) }
+        ensures counts { IfOk result (λ journal. IsOpening (D.counts disk) (⟦<DiskJournal<E, D> as Journal<E>>⟧.counts journal) ⊤ ⊥ ⊥) }
+        ensures faults { IfOk result (λ journal. D.faults disk ≤ ⟦<DiskJournal<E, D> as Journal<E>>⟧.faults journal) }
+        ensures any_moment { IsTrue (D.tells disk) → IfOk result (λ journal. LeavesOnly D.moment D.left_since disk (⟦<DiskJournal<E, D> as OnDisk<D>>⟧.disk journal) (MayLeave (D.contents disk))) }
+        ensures empty { IsTrue (D.tells disk) → IfErr result (λ error. error.cause ≡ OpenCause.NotFormatted → (D.contents disk).shown ≡ []) }
+        ensures damaged { IsTrue (D.tells disk) → (place : ℕ) → IfErr result (λ error. error.cause ≡ OpenCause.Damaged place → journal_of E.reading (D.contents disk).shown ≡ Damaged place) }
+        ensures never_full { (n : ℕ) → IfErr result (λ error. error.cause ≡ OpenCause.NotEmpty n → ⊥) }
+        ensures disk { IfErr result (λ error. error.cause ≡ OpenCause.Disk → Rose (D.faults disk) (D.faults error.back)) }
+        ensures back_faults { IfErr result (λ error. D.faults disk ≤ D.faults error.back) }
+        ensures back_tells { IfErr result (λ error. D.tells error.back ≡ D.tells disk) }
+        ensures back_shown { IsTrue (D.tells disk) → IfErr result (λ error. (D.contents error.back).shown ≡ (D.contents disk).shown) }
+        ensures back_counts { IfErr result (λ error. IsOpening (D.counts disk) (D.counts error.back) ⊥ (error.cause ≡ OpenCause.Disk) (error.cause ≡ OpenCause.Memory)) }
+        ensures back_any_moment { IsTrue (D.tells disk) → IfErr result (λ error. LeavesOnly D.moment D.left_since disk error.back (MayLeave (D.contents disk))) }
+        // the sync went well where the length failed: one image is left
+        ensures one_left { IsTrue (D.tells disk) → StopsAtLength (D.counts disk) → IfErr result (λ error. error.cause ≡ OpenCause.Disk → (image : List ℕ) → MayLeave (D.contents error.back) image → image ≡ (D.contents disk).shown) }
+    {
+        let mut disk = disk;
+        match open_disk(alloc, &mut disk, 0, 0) {
+            Ok(Opened { entries, gates, end }) => Ok(DiskJournal {
+                alloc,
+                disk,
+                entries,
+                gates,
+                end,
+                buffer: Vec::new(alloc),
+                spare: Spare::NONE,
+                fetched: 0,
+                failed: false,
+            }),
+            Err(OpenFault::Disk) => Err(OpenError { back: disk, cause: OpenCause::Disk }),
+            Err(OpenFault::NotFormatted) => Err(OpenError { back: disk, cause: OpenCause::NotFormatted }),
+            Err(OpenFault::Damaged(place)) => Err(OpenError { back: disk, cause: OpenCause::Damaged(place) }),
+            Err(OpenFault::Memory) => Err(OpenError { back: disk, cause: OpenCause::Memory }),
+        }
+    }
+
+    /// The place of the gate of the group that holds an entry, or of the last gate where the number is the count.
+    pub fn place_of(&self, i: u64) -> u64
+        requires { i ≤ length (⟦<DiskJournal<E, D> as Journal<E>>⟧.entries self.now) }
+        ensures { IsTrue (⟦<DiskJournal<E, D> as Journal<E>>⟧.tells self.now) → ⟦<DiskJournal<E, D> as Journal<E>>⟧.has_failed self.now ≡ false → place_found i (journal_of E.reading (⟦<DiskJournal<E, D> as Journal<E>>⟧.shown self.now)) ≡ Some result }
+    {
+        let at = i as usize;
+        if at < self.gates.len() { self.gates[at] } else { self.end }
+    }
+
+    /// Gives the disk back.
+    pub fn into_disk(self) -> D
+        ensures { result ≡ ⟦<DiskJournal<E, D> as OnDisk<D>>⟧.disk self }
+    {
+        self.disk
     }
 }

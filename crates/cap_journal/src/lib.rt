@@ -11,7 +11,7 @@ mod settle;
 mod spare;
 mod vec_journal;
 
-pub use disk_journal::DiskJournal;
+pub use disk_journal::{DiskJournal, OnDisk, OpenCause, OpenError};
 pub use journal::{Journal, JournalError, OpenFault, Reopen};
 pub use record::Record;
 pub use spare::Spare;

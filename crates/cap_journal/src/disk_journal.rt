@@ -6,10 +6,10 @@ ghost use Rattle.cap_journal.specs.File.{entries_found, gates_found, end_found, 
 ghost use Rattle.cap_journal.specs.Spare.{bytes_for, entries_for};
 
 use crate::append::write_entries;
-use crate::settle::{Opened, open_disk};
+use crate::settle::{Opened, format_disk, open_disk};
 use crate::{Journal, JournalError, OpenFault, Record, Reopen, Spare};
 use cap_base::Memory;
-use cap_disk::Disk;
+use cap_disk::{Counted, Disk, Fill, MemoryDisk};
 use std::alloc::Global;
 
 // More entries are not reserved.
@@ -267,11 +267,55 @@ pub enum OpenCause {
 }
 
 impl<E: Record, D: Disk> DiskJournal<E, D> {
-    ghost use Rattle.std.specs.Prelude.{◌≡◌, ◌≤◌, ◌<◌, ℕ, List, [], length, ⊤, IsTrue, IfOk, IfErr, Some, false};
+    ghost use Rattle.std.specs.Prelude.{◌≡◌, ◌≤◌, ◌<◌, ℕ, List, [], ◌∷◌, length, ⊤, IsTrue, IfOk, IfErr, Some, false};
     ghost use Rattle.cap_base.specs.Causes.{Rose};
     ghost use Rattle.cap_disk.specs.Disk.{MayLeave, LeavesOnly};
     ghost use Rattle.cap_journal.specs.File.{journal_of, Damaged, Has, IsFormatted, place_found};
-    ghost use Rattle.cap_journal.specs.Opening.{IsOpening, StopsAtLength};
+    ghost use Rattle.cap_journal.specs.Opening.{IsOpening, IsFormatting, StopsAtLength};
+
+    /// Formats an empty disk: one closed gate, and a sync. There is room for one entry of any size then.
+    pub fn init(alloc: Global, disk: D) -> Result<DiskJournal<E, D>, OpenError<D>>
+        ensures entries { IfOk result (λ journal. ⟦<DiskJournal<E, D> as Journal<E>>⟧.entries journal ≡ []) }
+        ensures spare { IfOk result (λ journal. 1 ≤ (⟦<DiskJournal<E, D> as Journal<E>>⟧.spare journal).rows) }
+        ensures works { IfOk result (λ journal. ⟦<DiskJournal<E, D> as Journal<E>>⟧.has_failed journal ≡ false) }
+        ensures fetched { IfOk result (λ journal. ⟦<DiskJournal<E, D> as Journal<E>>⟧.fetched journal ≡ 0) }
+        ensures tells { IfOk result (λ journal. ⟦<DiskJournal<E, D> as Journal<E>>⟧.tells journal ≡ D.tells disk) }
+        ensures shown { IsTrue (D.tells disk) → IfOk result (λ journal. ⟦<DiskJournal<E, D> as Journal<E>>⟧.shown journal ≡ 0 ∷ []) }
+        ensures counts { IfOk result (λ journal. IsFormatting (D.counts disk) (⟦<DiskJournal<E, D> as Journal<E>>⟧.counts journal) ⊤ ⊥) }
+        ensures faults { IfOk result (λ journal. D.faults disk ≤ ⟦<DiskJournal<E, D> as Journal<E>>⟧.faults journal) }
+        ensures empty { IsTrue (D.tells disk) → IfOk result (λ journal. (D.contents disk).shown ≡ []) }
+        ensures not_empty { IsTrue (D.tells disk) → (n : ℕ) → IfErr result (λ error. error.cause ≡ OpenCause.NotEmpty n → (n ≡ length (D.contents disk).shown) × (0 < n)) }
+        ensures never_read { (place : ℕ) → IfErr result (λ error. error.cause ≡ OpenCause.Damaged place → ⊥) }
+        ensures never_unformatted { IfErr result (λ error. error.cause ≡ OpenCause.NotFormatted → ⊥) }
+        ensures disk { IfErr result (λ error. error.cause ≡ OpenCause.Disk → Rose (D.faults disk) (D.faults error.back)) }
+        ensures back_faults { IfErr result (λ error. D.faults disk ≤ D.faults error.back) }
+        ensures back_tells { IfErr result (λ error. D.tells error.back ≡ D.tells disk) }
+        ensures back_contents { IsTrue (D.tells disk) → IfErr result (λ error. (error.cause ≡ OpenCause.Disk → ⊥) → D.contents error.back ≡ D.contents disk) }
+        ensures back_counts { IfErr result (λ error. IsFormatting (D.counts disk) (D.counts error.back) ⊥ (error.cause ≡ OpenCause.Disk)) }
+        ensures back_any_moment { IsTrue (D.tells disk) → IfErr result (λ error. (error.cause ≡ OpenCause.Disk → ⊥) → LeavesOnly D.moment D.left_since disk error.back (MayLeave (D.contents disk))) }
+    {
+        let mut disk = disk;
+        let mut entries = Vec::new(alloc);
+        let mut gates = Vec::new(alloc);
+        let mut buffer = Vec::new(alloc);
+        if entries.reserve(1).is_err() || gates.reserve(1).is_err() || buffer.reserve(LARGEST).is_err() {
+            return Err(OpenError { back: disk, cause: OpenCause::Memory });
+        }
+        match format_disk(&mut disk, 65_542, 4) {
+            Ok(()) => Ok(DiskJournal {
+                alloc,
+                disk,
+                entries,
+                gates,
+                end: 0,
+                buffer,
+                spare: Spare { small: 0, rows: 1 },
+                fetched: 0,
+                failed: false,
+            }),
+            Err(cause) => Err(OpenError { back: disk, cause }),
+        }
+    }
 
     /// Opens a disk that holds a journal's file: one sync, one length, then reads alone.
     pub fn open(alloc: Global, disk: D) -> Result<DiskJournal<E, D>, OpenError<D>>
@@ -292,6 +336,9 @@ impl<E: Record, D: Disk> DiskJournal<E, D> {
         ensures back_shown { IsTrue (D.tells disk) → IfErr result (λ error. (D.contents error.back).shown ≡ (D.contents disk).shown) }
         ensures back_counts { IfErr result (λ error. IsOpening (D.counts disk) (D.counts error.back) ⊥ (error.cause ≡ OpenCause.Disk) (error.cause ≡ OpenCause.Memory)) }
         ensures back_any_moment { IsTrue (D.tells disk) → IfErr result (λ error. LeavesOnly D.moment D.left_since disk error.back (MayLeave (D.contents disk))) }
+        // on a disk whose every image is a whole file
+        ensures formatted { IsTrue (D.tells disk) → ((image : List ℕ) → MayLeave (D.contents disk) image → IsFormatted E.reading image) → IfErr result (λ error. error.cause ≡ OpenCause.NotFormatted → ⊥) }
+        ensures whole { IsTrue (D.tells disk) → ((image : List ℕ) → MayLeave (D.contents disk) image → IsFormatted E.reading image) → (place : ℕ) → IfErr result (λ error. error.cause ≡ OpenCause.Damaged place → ⊥) }
         // the sync went well where the length failed: one image is left
         ensures one_left { IsTrue (D.tells disk) → StopsAtLength (D.counts disk) → IfErr result (λ error. error.cause ≡ OpenCause.Disk → (image : List ℕ) → MayLeave (D.contents error.back) image → image ≡ (D.contents disk).shown) }
     {
@@ -329,5 +376,38 @@ impl<E: Record, D: Disk> DiskJournal<E, D> {
         ensures { result ≡ ⟦<DiskJournal<E, D> as OnDisk<D>>⟧.disk self }
     {
         self.disk
+    }
+}
+
+impl<E: Record> DiskJournal<E, MemoryDisk> {
+    ghost use Rattle.std.specs.Prelude.{◌≡◌};
+    ghost use Rattle.cap_disk.specs.MemoryDisk.{history_of, room_of, faults_of, cut_of, armed};
+
+    /// Lets the power be cut at a call of its disk, as the disk's own call does, and changes nothing else.
+    pub fn arm_cut(&mut self, call: u64, fill: Fill, counted: Counted)
+        ensures history { history_of (⟦<DiskJournal<E, MemoryDisk> as OnDisk<MemoryDisk>>⟧.disk self.new) ≡ history_of (⟦<DiskJournal<E, MemoryDisk> as OnDisk<MemoryDisk>>⟧.disk self.old) }
+        ensures cut { cut_of (⟦<DiskJournal<E, MemoryDisk> as OnDisk<MemoryDisk>>⟧.disk self.new) ≡ cut_of (⟦<DiskJournal<E, MemoryDisk> as OnDisk<MemoryDisk>>⟧.disk self.old) }
+        ensures counts { ⟦<DiskJournal<E, MemoryDisk> as Journal<E>>⟧.counts self.new ≡ armed (⟦<DiskJournal<E, MemoryDisk> as OnDisk<MemoryDisk>>⟧.disk self.old) counted call }
+        ensures faults { ⟦<DiskJournal<E, MemoryDisk> as Journal<E>>⟧.faults self.new ≡ ⟦<DiskJournal<E, MemoryDisk> as Journal<E>>⟧.faults self.old }
+        ensures entries { ⟦<DiskJournal<E, MemoryDisk> as Journal<E>>⟧.entries self.new ≡ ⟦<DiskJournal<E, MemoryDisk> as Journal<E>>⟧.entries self.old }
+        ensures spare { ⟦<DiskJournal<E, MemoryDisk> as Journal<E>>⟧.spare self.new ≡ ⟦<DiskJournal<E, MemoryDisk> as Journal<E>>⟧.spare self.old }
+        ensures fetched { ⟦<DiskJournal<E, MemoryDisk> as Journal<E>>⟧.fetched self.new ≡ ⟦<DiskJournal<E, MemoryDisk> as Journal<E>>⟧.fetched self.old }
+        ensures has_failed { ⟦<DiskJournal<E, MemoryDisk> as Journal<E>>⟧.has_failed self.new ≡ ⟦<DiskJournal<E, MemoryDisk> as Journal<E>>⟧.has_failed self.old }
+    {
+        self.disk.arm_cut(call, fill, counted);
+    }
+
+    /// Lets one call of its disk fail, as the disk's own call does, and changes nothing else.
+    pub fn arm_fail(&mut self, call: u64, fill: Fill, counted: Counted)
+        ensures history { history_of (⟦<DiskJournal<E, MemoryDisk> as OnDisk<MemoryDisk>>⟧.disk self.new) ≡ history_of (⟦<DiskJournal<E, MemoryDisk> as OnDisk<MemoryDisk>>⟧.disk self.old) }
+        ensures cut { cut_of (⟦<DiskJournal<E, MemoryDisk> as OnDisk<MemoryDisk>>⟧.disk self.new) ≡ cut_of (⟦<DiskJournal<E, MemoryDisk> as OnDisk<MemoryDisk>>⟧.disk self.old) }
+        ensures counts { ⟦<DiskJournal<E, MemoryDisk> as Journal<E>>⟧.counts self.new ≡ armed (⟦<DiskJournal<E, MemoryDisk> as OnDisk<MemoryDisk>>⟧.disk self.old) counted call }
+        ensures faults { ⟦<DiskJournal<E, MemoryDisk> as Journal<E>>⟧.faults self.new ≡ ⟦<DiskJournal<E, MemoryDisk> as Journal<E>>⟧.faults self.old }
+        ensures entries { ⟦<DiskJournal<E, MemoryDisk> as Journal<E>>⟧.entries self.new ≡ ⟦<DiskJournal<E, MemoryDisk> as Journal<E>>⟧.entries self.old }
+        ensures spare { ⟦<DiskJournal<E, MemoryDisk> as Journal<E>>⟧.spare self.new ≡ ⟦<DiskJournal<E, MemoryDisk> as Journal<E>>⟧.spare self.old }
+        ensures fetched { ⟦<DiskJournal<E, MemoryDisk> as Journal<E>>⟧.fetched self.new ≡ ⟦<DiskJournal<E, MemoryDisk> as Journal<E>>⟧.fetched self.old }
+        ensures has_failed { ⟦<DiskJournal<E, MemoryDisk> as Journal<E>>⟧.has_failed self.new ≡ ⟦<DiskJournal<E, MemoryDisk> as Journal<E>>⟧.has_failed self.old }
+    {
+        self.disk.arm_fail(call, fill, counted);
     }
 }

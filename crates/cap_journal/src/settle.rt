@@ -1,14 +1,15 @@
 // Opening a disk: the sync, the length, and the file read whole.
-ghost use Rattle.std.specs.Prelude.{◌≡◌, ◌≤◌, ◌<◌, ◌+◌, ◌^◌, ℕ, List, [], length, Bool, Option, IsTrue, IsOk, IfOk, OnOk, IsErrOf};
-ghost use Rattle.cap_base.specs.Causes.{Rose};
-ghost use Rattle.cap_disk.specs.Disk.{MayLeave, HasRoom, LeavesOnly, StaysCounted};
+ghost use Rattle.std.specs.Prelude.{◌≡◌, ◌≤◌, ◌<◌, ◌+◌, ◌^◌, ℕ, List, [], ◌∷◌, length, Bool, Option, IsTrue, IsOk, IfOk, OnOk, OnErr, IsErrOf};
+ghost use Rattle.cap_base.specs.Causes.{Rose, HasCause};
+ghost use Rattle.cap_disk.specs.Disk.{MayLeave, HasRoom, Uses, LeavesOnly, StaysCounted};
 ghost use Rattle.cap_journal.specs.File.{journal_of, Whole, NotFormatted, Damaged};
-ghost use Rattle.cap_journal.specs.Group.{IsSettled};
-ghost use Rattle.cap_journal.specs.Opening.{IsOpening, StopsAtLength};
+ghost use Rattle.cap_journal.specs.Group.{IsSettled, IsRun};
+ghost use Rattle.cap_journal.specs.Opening.{IsOpening, IsFormatting, StopsAtLength};
 ghost use Rattle.cap_journal.specs.Told.{IsQuiet};
 
 use crate::open::read_groups;
-use crate::{OpenFault, Record};
+use crate::{OpenCause, OpenFault, Record};
+use cap_base::Failed;
 use cap_disk::Disk;
 use std::alloc::Global;
 
@@ -103,5 +104,56 @@ pub fn open_disk<E: Record, D: Disk>(alloc: Global, disk: &mut D, bytes: u64, ca
         Ok(len) => read_file(alloc, disk, len),
         Err(OpenFault::Disk) => Err(OpenFault::Disk),
         Err(_) => Err(OpenFault::Memory),
+    }
+}
+
+// What a new file begins with: a closed gate.
+const SHUT: [u8; 1] = [0];
+
+// Writes it, and syncs.
+fn put_gate<D: Disk>(disk: &mut D) -> Result<(), Failed>
+    requires room { HasRoom 1 2 (D.room disk.old) }
+    requires empty { IsTrue (D.tells disk.old) → (D.contents disk.old).shown ≡ [] }
+    ensures shown { IsTrue (D.tells disk.old) → OnOk result ((D.contents disk.new).shown ≡ 0 ∷ []) }
+    ensures settled { IsTrue (D.tells disk.old) → OnOk result (IsSettled (D.contents disk.new)) }
+    ensures room { Uses 1 2 (D.room disk.old) (D.room disk.new) }
+    ensures tells { D.tells disk.new ≡ D.tells disk.old }
+    ensures cause { HasCause (D.faults disk.old) (D.faults disk.new) result }
+    ensures counts { IsRun 2 (D.counts disk.old) (D.counts disk.new) result }
+{
+    disk.write_at(0, &SHUT)?;
+    disk.sync()?;
+    Ok(())
+}
+
+/// Writes one closed gate on an empty disk and syncs, and leaves this room.
+pub fn format_disk<D: Disk>(disk: &mut D, bytes: u64, calls: u64) -> Result<(), OpenCause>
+    requires bytes { bytes < 2 ^ 62 }
+    requires calls { calls < 2 ^ 62 }
+    ensures empty { IsTrue (D.tells disk.old) → OnOk result ((D.contents disk.old).shown ≡ []) }
+    ensures shown { IsTrue (D.tells disk.old) → OnOk result ((D.contents disk.new).shown ≡ 0 ∷ []) }
+    ensures settled { IsTrue (D.tells disk.old) → OnOk result (IsSettled (D.contents disk.new)) }
+    ensures room { OnOk result (HasRoom bytes calls (D.room disk.new)) }
+    ensures not_empty { IsTrue (D.tells disk.old) → (n : ℕ) → IsErrOf result (OpenCause.NotEmpty n) → (n ≡ length (D.contents disk.old).shown) × (0 < n) }
+    ensures untouched { IsTrue (D.tells disk.old) → OnErr result ((IsErrOf result OpenCause.Disk → ⊥) → (D.contents disk.new ≡ D.contents disk.old)) }
+    ensures any_moment { IsTrue (D.tells disk.old) → OnErr result ((IsErrOf result OpenCause.Disk → ⊥) → LeavesOnly D.moment D.left_since disk.old disk.new (MayLeave (D.contents disk.old))) }
+    ensures not_read { (place : ℕ) → IsErrOf result (OpenCause.Damaged place) → ⊥ }
+    ensures formatted { IsErrOf result OpenCause.NotFormatted → ⊥ }
+    ensures tells { D.tells disk.new ≡ D.tells disk.old }
+    ensures faults { D.faults disk.old ≤ D.faults disk.new }
+    ensures disk { IsErrOf result OpenCause.Disk → Rose (D.faults disk.old) (D.faults disk.new) }
+    ensures counts { IsFormatting (D.counts disk.old) (D.counts disk.new) (IsOk result) (IsErrOf result OpenCause.Disk) }
+{
+    if disk.make_room(bytes + 1, calls + 2).is_err() {
+        return Err(OpenCause::Memory);
+    }
+    match disk.len() {
+        Ok(0) => {}
+        Ok(len) => return Err(OpenCause::NotEmpty(len)),
+        Err(_) => return Err(OpenCause::Disk),
+    }
+    match put_gate(disk) {
+        Ok(()) => Ok(()),
+        Err(_) => Err(OpenCause::Disk),
     }
 }

@@ -1,5 +1,5 @@
 -- What an image has that begins with open groups.
-use Rattle.std.proofs.Common.{◌≡◌, ◌⊎◌, inl, inr, ℕ, zero, suc, ◌+◌, ◌≤◌, ◌<◌, List, [], ◌∷◌, ◌++◌, length, take, drop, replicate, map, sum, All, slice_index, Bool, true, false, ◌==◌, IsTrue, Option, Some, None, refl, sym, ◌∙◌, ap, subst, arith, append_assoc, length-append, zero-add}
+use Rattle.std.proofs.Common.{◌≡◌, inl, inr, ℕ, ◌+◌, ◌≤◌, ◌<◌, List, [], ◌∷◌, ◌++◌, length, take, replicate, map, sum, All, slice_index, Bool, true, false, ◌==◌, IsTrue, Option, Some, refl, sym, ◌∙◌, ap, subst, arith, append_assoc, length-append, zero-add}
 use Rattle.std.proofs.Math.Seq.{get_or-append_seam}
 use Rattle.std.proofs.lemmas.Bool.{eqb-true}
 use Rattle.std.proofs.lemmas.List.{take_at, drop_at, append-nil}
@@ -7,7 +7,7 @@ use Rattle.std.proofs.lemmas.List.Sums.{sum-map, sum_by-cons}
 use Rattle.std.proofs.lemmas.List.Elements.{All-head, All-tail}
 use Rattle.byteorder.specs.Endian.{big_bytes}
 use Rattle.byteorder.specs.Numbers.{big_number-reads_back, length-bytes_high_first}
-use Rattle.cap_journal.specs.File.{Reading, Found, Whole, NotFormatted, Damaged, records, records_behind, with_first, group_length, groups, journal_of, entries_found, entries_in, gates_found, end_found, Has, HasEither}
+use Rattle.cap_journal.specs.File.{Reading, Found, Whole, NotFormatted, Damaged, records, with_first, group_length, journal_of, entries_found, gates_found, end_found, Has, HasEither}
 use Rattle.cap_journal.specs.Reading.{all_records}
 use Rattle.cap_journal.specs.Group.{HasGate, HasGroup, HasGateOrGroup, IsOpened, joined}
 use Rattle.cap_journal.proofs.Readings.{behind_some}
@@ -78,11 +78,12 @@ module _ {E : Type 0} (reading : Reading E) where
     where
       group : List ℕ
       group = big_bytes 4 (length body) ++ body
+
       by_gate : (t : Bool) → (has.gate == 165) ≡ t → HasEither reading list (list ++ es) image
       by_gate false shut = inl (ap (λ (f : Found E). entries_found f) (whole front list gates has.gate (((big_bytes 4 (length body) ++ body) ++ (0 ∷ [])) ++ has.rest) image opens shut has.is))
       by_gate true open_gate =
           let is : image ≡ (front ++ (165 ∷ (big_bytes 4 (length body) ++ body))) ++ (0 ∷ has.rest) =
-              regrouped front body has.rest image 165 (has.is ∙ ap (λ (g : ℕ). front ++ (g ∷ (((big_bytes 4 (length body) ++ body) ++ (0 ∷ [])) ++ has.rest))) (eqb-true has.gate 165 open_gate)) in
+          regrouped front body has.rest image 165 (has.is ∙ ap (λ (g : ℕ). front ++ (g ∷ (((big_bytes 4 (length body) ++ body) ++ (0 ∷ [])) ++ has.rest))) (eqb-true has.gate 165 open_gate)) in
           inr (ap (λ (f : Found E). entries_found f) (whole (front ++ (165 ∷ (big_bytes 4 (length body) ++ body))) (list ++ es) (gates ++ replicate (length es) (0 + length front)) 0 has.rest image (pushed front list gates body es opens b) refl is))
 
   pub opened_is : (front : List ℕ) (list : List E) (gates : List ℕ) (body : List ℕ) (es : List E) (image : List ℕ) → Opens reading 0 front list gates → Body body es → IsOpened front ((big_bytes 4 (length body) ++ body) ++ (0 ∷ [])) image

@@ -1,5 +1,5 @@
 -- The numbers of a disk over an opening.
-use Rattle.std.proofs.Common.{◌≡◌, ◌⊎◌, ⊎_elim, ℕ, ◌+◌, ◌^◌, ◌≤◌, ◌<◌, Option, Some, None, IsSomeAnd, refl, sym, ◌∙◌, ap, subst, arith}
+use Rattle.std.proofs.Common.{◌≡◌, ⊎_elim, ◌+◌, ◌≤◌, Option, Some, None, IsSomeAnd, refl, sym, subst, arith}
 use Rattle.cap_disk.specs.Disk.{Counts, StaysCounted}
 use Rattle.cap_journal.specs.Told.{StopsWithin, counted, IsQuiet}
 use Rattle.cap_journal.specs.Opening.{CountsOpening, IsOpening}
@@ -17,5 +17,5 @@ module _ (ok disk memory : Type 0) where
   pub read_counts : (k0 k1 k2 : Option Counts) (ok' disk' memory' : Type 0) → ok → (disk → ⊥) → (memory → ⊥) → IsOpening k0 k1 ok disk memory → StaysCounted k1 k2 → IsQuiet k1 disk' → IsOpening k0 k2 ok' disk' memory'
   read_counts None k1 k2 ok' disk' memory' is no_disk no_memory opening stays quiet = tt
   read_counts (Some old) k1 k2 ok' disk' memory' is no_disk no_memory opening stays quiet = λ small.
-    (let one : CountsOpening old k1 ok disk memory = opening small in
+      (let one : CountsOpening old k1 ok disk memory = opening small in
       read_told old k2 ok' disk' memory' (λ w. ⊎_elim no_disk no_memory (one.goes_on w)) (subst (λ (k : Option Counts). StaysCounted k k2) (one.opened is) stays) (subst (λ (k : Option Counts). IsQuiet k disk') (one.opened is) quiet))

@@ -1,11 +1,10 @@
 -- Files as open groups, a closed gate, and what counts for nothing.
-use Rattle.std.proofs.Common.{◌≡◌, ℕ, zero, suc, ◌+◌, ◌≤◌, ◌<◌, List, [], ◌∷◌, ◌++◌, length, take, drop, replicate, Bool, true, false, ◌==◌, ◌&&◌, nat_le, nat_lt, if◌then◌else◌, Option, Some, None, refl, sym, ◌∙◌, ap, subst, arith, append_assoc, length-append, length-take, length-drop, take-append-drop}
-use Rattle.std.proofs.lemmas.Bool.{cases_eq, eqb-true}
+use Rattle.std.proofs.Common.{◌≡◌, ℕ, zero, suc, ◌+◌, ◌≤◌, ◌<◌, List, [], ◌∷◌, ◌++◌, length, take, drop, replicate, Bool, true, false, ◌==◌, if◌then◌else◌, Option, Some, None, refl, sym, ◌∙◌, ap, subst, arith, append_assoc, length-append, length-take, length-drop, take-append-drop}
+use Rattle.std.proofs.lemmas.Bool.{eqb-true}
 use Rattle.std.proofs.lemmas.Bool.Decides.{nat_tests}
 use Rattle.std.proofs.lemmas.List.{take_at, drop_at, drop-drop, append-nil}
-use Rattle.byteorder.specs.Endian.{big_number, big_bytes}
 use Rattle.byteorder.specs.Numbers.{big_from-append, big_from-take}
-use Rattle.cap_journal.specs.File.{Reading, Found, Whole, NotFormatted, Damaged, records, records_behind, with_first, group_length, fits_group, body_of, group_of, behind, groups, group_behind, journal_of, entries_found, entries_in, end_found, Has}
+use Rattle.cap_journal.specs.File.{Reading, Found, Whole, NotFormatted, Damaged, records, group_length, fits_group, body_of, group_of, behind, groups, group_behind}
 
 if_true : {A : Type 0} (b : Bool) (x y : A) → b ≡ true → (if b then x else y) ≡ x
 if_true true x y is = refl
@@ -19,7 +18,7 @@ if_false false x y is = refl
 pub data Opens {E : Type 0} (reading : Reading E) : ℕ → List ℕ → List E → List ℕ → Type 0 where
   none : (place : ℕ) → Opens reading place [] [] []
   more : (place : ℕ) (head body : List ℕ) (es : List E) {front : List ℕ} {list : List E} {gates : List ℕ} → length head ≡ 4 → group_length head ≡ length body → 1 ≤ length body → length body ≤ 65536 → records reading (length body) body ≡ Some es
-    → Opens reading (place + 5 + length body) front list gates → Opens reading place (165 ∷ (head ++ (body ++ front))) (es ++ list) (replicate (length es) place ++ gates)
+      → Opens reading (place + 5 + length body) front list gates → Opens reading place (165 ∷ (head ++ (body ++ front))) (es ++ list) (replicate (length es) place ++ gates)
 
 -- a file that is read whole
 pub record Parts {E : Type 0} (reading : Reading E) (bytes : List ℕ) (place : ℕ) (list : List E) (gates : List ℕ) (end : ℕ) : Type 0 where
@@ -133,7 +132,7 @@ module _ {E : Type 0} (reading : Reading E) where
         rest = inner.rest;
         opens = subst (λ (l : List E). Opens reading place front l gates) lists (subst (λ (l : List ℕ). Opens reading place front (es ++ list') l) places (regroup place bytes es inner.front list' gates' is inner.opens));
         split = ap (λ (l : List ℕ). 165 ∷ l) (body_split bytes ∙ ap (λ (l : List ℕ). take 4 bytes ++ (body_of bytes ++ l)) inner.split
-          ∙ ap (λ (l : List ℕ). take 4 bytes ++ l) (sym (append_assoc (body_of bytes) inner.front (inner.gate ∷ inner.rest))) ∙ sym (append_assoc (take 4 bytes) (body_of bytes ++ inner.front) (inner.gate ∷ inner.rest)));
+            ∙ ap (λ (l : List ℕ). take 4 bytes ++ l) (sym (append_assoc (body_of bytes) inner.front (inner.gate ∷ inner.rest))) ∙ sym (append_assoc (take 4 bytes) (body_of bytes ++ inner.front) (inner.gate ∷ inner.rest)));
         shut = inner.shut;
         size = omega (arith, inner.size, ends, size, four, length-append (take 4 bytes) (body_of bytes ++ inner.front), length-append (body_of bytes) inner.front);
       }
@@ -170,16 +169,16 @@ module _ {E : Type 0} (reading : Reading E) where
       let at : replicate (length es) place ++ [] ≡ [] ++ replicate (length es) (place + 0) = append-nil (replicate (length es) place) ∙ ap (λ (k : ℕ). replicate (length es) k) (omega arith) in
       subst (λ (l : List ℕ). Opens reading place (165 ∷ (head ++ body)) es l) at
       (subst (λ (l : List ℕ). Opens reading place (165 ∷ (head ++ l)) es (replicate (length es) place ++ [])) (append-nil body)
-        (subst (λ (l : List E). Opens reading place (165 ∷ (head ++ (body ++ []))) l (replicate (length es) place ++ [])) (append-nil es) (more place head body es four number low high reads (none (place + 5 + length body)))))
+      (subst (λ (l : List E). Opens reading place (165 ∷ (head ++ (body ++ []))) l (replicate (length es) place ++ [])) (append-nil es) (more place head body es four number low high reads (none (place + 5 + length body)))))
   one_more head body es four number low high reads (more place head' body' es' {front = front} {list = list} {gates = gates} four' number' low' high' reads' opens) =
       let added = 165 ∷ (head ++ body) in
       let bytes : 165 ∷ (head' ++ (body' ++ (front ++ added))) ≡ (165 ∷ (head' ++ (body' ++ front))) ++ added =
-          ap (λ (l : List ℕ). 165 ∷ l) (ap (λ (l : List ℕ). head' ++ l) (sym (append_assoc body' front added)) ∙ sym (append_assoc head' (body' ++ front) added)) in
+      ap (λ (l : List ℕ). 165 ∷ l) (ap (λ (l : List ℕ). head' ++ l) (sym (append_assoc body' front added)) ∙ sym (append_assoc head' (body' ++ front) added)) in
       let next : ℕ = place + 5 + length body' + length front in
       let next_is : next ≡ place + length (165 ∷ (head' ++ (body' ++ front))) = omega (arith, four', length-append head' (body' ++ front), length-append body' front) in
       let at : replicate (length es') place ++ (gates ++ replicate (length es) next) ≡ (replicate (length es') place ++ gates) ++ replicate (length es) (place + length (165 ∷ (head' ++ (body' ++ front)))) =
-          sym (append_assoc (replicate (length es') place) gates (replicate (length es) next)) ∙ ap (λ (k : ℕ). (replicate (length es') place ++ gates) ++ replicate (length es) k) next_is in
+      sym (append_assoc (replicate (length es') place) gates (replicate (length es) next)) ∙ ap (λ (k : ℕ). (replicate (length es') place ++ gates) ++ replicate (length es) k) next_is in
       subst (λ (l : List ℕ). Opens reading place ((165 ∷ (head' ++ (body' ++ front))) ++ added) ((es' ++ list) ++ es) l) at
       (subst (λ (l : List ℕ). Opens reading place l ((es' ++ list) ++ es) (replicate (length es') place ++ (gates ++ replicate (length es) next))) bytes
-        (subst (λ (l : List E). Opens reading place (165 ∷ (head' ++ (body' ++ (front ++ added)))) l (replicate (length es') place ++ (gates ++ replicate (length es) next))) (sym (append_assoc es' list es))
-          (more place head' body' es' four' number' low' high' reads' (one_more head body es four number low high reads opens))))
+      (subst (λ (l : List E). Opens reading place (165 ∷ (head' ++ (body' ++ (front ++ added)))) l (replicate (length es') place ++ (gates ++ replicate (length es) next))) (sym (append_assoc es' list es))
+      (more place head' body' es' four' number' low' high' reads' (one_more head body es four number low high reads opens))))

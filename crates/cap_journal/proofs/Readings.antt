@@ -1,8 +1,8 @@
 -- Reading goes on from any place.
-use Rattle.std.proofs.Common.{◌≡◌, ℕ, zero, suc, ◌+◌, ◌-◌, ◌≤◌, ◌<◌, List, [], ◌∷◌, ◌++◌, length, take, drop, replicate, slice_index, get_or, Bool, true, false, ◌==◌, nat_le, nat_lt, if◌then◌else◌, Option, Some, None, refl, sym, ◌∙◌, ap, subst, arith, append_assoc, length-append, length-drop}
+use Rattle.std.proofs.Common.{◌≡◌, ℕ, zero, suc, ◌+◌, ◌≤◌, ◌<◌, List, [], ◌∷◌, ◌++◌, length, drop, replicate, slice_index, Bool, false, ◌==◌, if◌then◌else◌, Option, Some, None, refl, sym, ◌∙◌, ap, arith, append_assoc, length-drop}
 use Rattle.std.proofs.lemmas.List.{append-nil, drop-drop, drop_more, drop_all}
-use Rattle.cap_journal.specs.File.{Reading, Found, Whole, NotFormatted, Damaged, records, records_behind, with_first, group_length, fits_group, body_of, group_of, behind, groups, group_behind, journal_of}
-use Rattle.cap_journal.specs.Reading.{all_records, with_front, some_if, groups_from}
+use Rattle.cap_journal.specs.File.{Reading, Found, Whole, NotFormatted, Damaged, records, records_behind, with_first, group_length, group_of, behind, groups, group_behind}
+use Rattle.cap_journal.specs.Reading.{all_records, with_front, groups_from}
 
 module _ {E : Type 0} (reading : Reading E) (sized : (value : E) (size : ℕ) (bytes : List ℕ) → reading bytes ≡ Some (value, size) → 1 ≤ size) where
   none : (n : ℕ) → records reading n [] ≡ Some []

@@ -1,11 +1,11 @@
 -- Where a group fits, and what its body is.
-use Rattle.std.proofs.Common.{◌≡◌, ℕ, ◌+◌, ◌-◌, ◌≤◌, ◌<◌, List, [], ◌∷◌, ◌++◌, length, take, drop, replicate, slice_index, Bool, true, false, nat_le, nat_lt, ◌&&◌, if◌then◌else◌, Option, Some, None, IsTrue, refl, sym, ◌∙◌, ap, subst, arith, length-append, length-take, length-drop}
+use Rattle.std.proofs.Common.{◌≡◌, ℕ, ◌+◌, ◌-◌, ◌≤◌, ◌<◌, List, ◌++◌, length, take, drop, replicate, slice_index, Bool, true, false, if◌then◌else◌, Option, Some, None, IsTrue, refl, sym, ◌∙◌, ap, arith, length-append, length-take, length-drop}
 use Rattle.std.proofs.lemmas.Bool.Decides.{nat_tests}
 use Rattle.std.proofs.lemmas.List.{take_all, drop-drop}
 use Rattle.byteorder.specs.Endian.{big_number}
-use Rattle.cap_journal.specs.File.{Reading, Found, records, group_length, fits_group, body_of, group_of, behind, Damaged}
-use Rattle.cap_journal.specs.Reading.{all_records, with_front, some_if, groups_from}
-use Rattle.cap_journal.proofs.Readings.{at_group, at_damaged}
+use Rattle.cap_journal.specs.File.{Reading, records, group_length, fits_group, body_of, group_of, behind}
+use Rattle.cap_journal.specs.Reading.{all_records, with_front, groups_from}
+use Rattle.cap_journal.proofs.Readings.{at_group}
 
 pub number_is : (l : List ℕ) (n r : ℕ) → length l ≤ n → r ≡ big_number 4 (take n l) → r ≡ group_length l
 unfolding group_length

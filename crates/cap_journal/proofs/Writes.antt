@@ -1,6 +1,6 @@
 -- What a crash leaves of the two writes of a group.
-use Rattle.std.proofs.Common.{◌≡◌, ◌⊎◌, inl, inr, ℕ, ◌+◌, ◌≤◌, ◌<◌, List, [], ◌∷◌, ◌++◌, length, take, drop, get_or, slice_index, refl, sym, ◌∙◌, ap, subst, arith, append_assoc, length-append, length-take, take-append-drop, zero-add}
-use Rattle.std.proofs.lemmas.List.{take_at, drop_at, drop-drop, drop_more, get_or_append_left, get_or-append-add, take_all}
+use Rattle.std.proofs.Common.{◌≡◌, inl, inr, ℕ, ◌+◌, ◌<◌, List, [], ◌∷◌, ◌++◌, length, take, drop, get_or, slice_index, sym, ◌∙◌, ap, arith, append_assoc, length-append, length-take, take-append-drop, zero-add}
+use Rattle.std.proofs.lemmas.List.{take_at, drop_at, drop_more, get_or_append_left, get_or-append-add}
 use Rattle.std.proofs.lemmas.List.Prefix.{at_from_reads}
 use Rattle.cap_disk.specs.Disk.{KeepsOutside, IsOutside, overwrite}
 use Rattle.cap_journal.specs.Group.{HasGate, HasGroup, IsOpened}
@@ -39,7 +39,7 @@ staged shown group new end lt is =
     let gate = slice_index shown end in
     let size = length_front shown end lt in
     let before : take (end + 1) shown ≡ front ++ (gate ∷ []) =
-        ap (λ (l : List ℕ). take (end + 1) l) (split_at shown end lt ∙ sym (append_assoc front (gate ∷ []) (drop (end + 1) shown))) ∙ take_at (front ++ (gate ∷ [])) (drop (end + 1) shown) (end + 1) (omega (arith, size, length-append front (gate ∷ []))) in
+    ap (λ (l : List ℕ). take (end + 1) l) (split_at shown end lt ∙ sym (append_assoc front (gate ∷ []) (drop (end + 1) shown))) ∙ take_at (front ++ (gate ∷ [])) (drop (end + 1) shown) (end + 1) (omega (arith, size, length-append front (gate ∷ []))) in
     is ∙ ap (λ (l : List ℕ). (l ++ group) ++ drop (end + 1 + length group) shown) before
     ∙ append_assoc (front ++ (gate ∷ [])) group (drop (end + 1 + length group) shown)
     ∙ append_assoc front (gate ∷ []) (group ++ drop (end + 1 + length group) shown)
@@ -54,7 +54,7 @@ behind_gate front group rest bytes image gate end size split keeps =
     let left = front ++ (gate ∷ []) in
     let length_left : length left ≡ end + 1 = omega (arith, size, length-append front (gate ∷ [])) in
     let second : drop (length left) image ≡ group ++ drop (length left + length group) image =
-        keeps_part ranges bytes image left group rest keeps (split ∙ sym (append_assoc front (gate ∷ []) (group ++ rest))) (λ i small. (inr (omega (arith, length_left)), tt)) in
+    keeps_part ranges bytes image left group rest keeps (split ∙ sym (append_assoc front (gate ∷ []) (group ++ rest))) (λ i small. (inr (omega (arith, length_left)), tt)) in
     let there : drop (length front) image ≡ slice_index image end ∷ drop (end + 1) image = ap (λ (k : ℕ). drop k image) size ∙ drop_more image end 0 (omega (arith, long, keeps.no_shorter)) in
     let behind : drop (end + 1) image ≡ group ++ drop (length left + length group) image = ap (λ (k : ℕ). drop k image) (sym length_left) ∙ second in
     record {
@@ -68,7 +68,7 @@ pub opened : (front group rest bytes new : List ℕ) (gate end : ℕ) → length
 opened front group rest bytes new gate end size split is =
     let before : take end bytes ≡ front = ap (λ (l : List ℕ). take end l) split ∙ take_at front (gate ∷ (group ++ rest)) end size in
     let after : drop (end + 1) bytes ≡ group ++ rest =
-        ap (λ (l : List ℕ). drop (end + 1) l) (split ∙ sym (append_assoc front (gate ∷ []) (group ++ rest))) ∙ drop_at (front ++ (gate ∷ [])) (group ++ rest) (end + 1) (omega (arith, size, length-append front (gate ∷ []))) in
+    ap (λ (l : List ℕ). drop (end + 1) l) (split ∙ sym (append_assoc front (gate ∷ []) (group ++ rest))) ∙ drop_at (front ++ (gate ∷ [])) (group ++ rest) (end + 1) (omega (arith, size, length-append front (gate ∷ []))) in
     record {
       rest = rest;
       is = is ∙ ap (λ (l : List ℕ). (l ++ (165 ∷ [])) ++ drop (end + 1) bytes) before ∙ ap (λ (l : List ℕ). (front ++ (165 ∷ [])) ++ l) after ∙ append_assoc front (165 ∷ []) (group ++ rest);

@@ -1,5 +1,5 @@
 -- A group that is written behind the last gate.
-use Rattle.std.specs.Prelude.{◌≡◌, ◌⊎◌, ℕ, ◌+◌, ◌^◌, ◌≤◌, ◌<◌, List, [], ◌∷◌, ◌++◌, length, take, slice_index, Option, Some, None, Result, OnOk, OnErr, ⊤}
+use Rattle.std.specs.Prelude.{◌≡◌, ◌⊎◌, ℕ, ◌+◌, ◌^◌, ◌≤◌, ◌<◌, List, [], ◌∷◌, ◌++◌, Option, Some, None, Result, OnOk, OnErr, ⊤}
 use Rattle.cap_disk.specs.Disk.{Contents, Counts}
 
 -- all that is there is on the disk

@@ -1,6 +1,6 @@
 -- Where all is on the disk, each image has what a read gives.
-use Rattle.std.specs.Prelude.{◌≡◌, ℕ, List, [], ◌∷◌, Option, Some, IsTrue, false}
-use Rattle.std.proofs.Common.{sym, ◌∙◌, ap, subst}
+use Rattle.std.specs.Prelude.{◌≡◌, ℕ, List, [], Some, IsTrue, false}
+use Rattle.std.proofs.Common.{◌∙◌, ap}
 use Rattle.cap_disk.specs.Disk.{Contents, MayLeave}
 use Rattle.cap_disk.specs.Moments.{leaves_none}
 use Rattle.cap_journal.specs.File.{Reading, entries_in, Has}

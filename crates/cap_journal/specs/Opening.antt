@@ -1,5 +1,5 @@
 -- What opening and formatting say of the two numbers of a disk: opening makes two calls, the sync and the length, and formatting three, the length, a write and a sync.
-use Rattle.std.specs.Prelude.{◌≡◌, ℕ, ◌+◌, ◌^◌, ◌≤◌, ◌<◌, ◌⊎◌, Option, Some, None, IsSomeAnd, ⊤}
+use Rattle.std.specs.Prelude.{◌≡◌, ◌+◌, ◌^◌, ◌≤◌, ◌<◌, ◌⊎◌, Option, Some, None, IsSomeAnd, ⊤}
 use Rattle.cap_disk.specs.Disk.{Counts}
 use Rattle.cap_journal.specs.Told.{StopsWithin, counted}
 

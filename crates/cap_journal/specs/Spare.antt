@@ -1,5 +1,5 @@
 -- The room of a journal for further entries.
-use Rattle.std.specs.Prelude.{◌≡◌, ℕ, ◌+◌, ◌-◌, ◌*◌, ◌≤◌, List, [], ◌∷◌, Bool, nat_le, nat_lt, ◌&&◌, if◌then◌else◌, Option, Some, None, option_and_then, IsSome, IfSome}
+use Rattle.std.specs.Prelude.{ℕ, ◌+◌, ◌-◌, ◌*◌, ◌≤◌, List, [], ◌∷◌, nat_le, nat_lt, ◌&&◌, if◌then◌else◌, Option, Some, None, option_and_then, IsSome, IfSome}
 use Rattle.cap_journal.specs.declared.spare.Spare.{Spare}
 
 -- what is left after an entry whose record has this many bytes

@@ -82,7 +82,14 @@ fn newest<E>(entries: &Vec<E>, from: usize) -> &[E]
 
 /// Writes the entries from a number on as one group behind the last gate, and gives the place of the new last gate. A refusal takes them
 /// out of the list again.
-pub fn write_entries<E: Record, D: Disk>(disk: &mut D, buffer: &mut Vec<u8>, entries: &mut Vec<E>, gates: &mut Vec<u64>, end: u64, from: usize) -> Result<u64, Failed>
+pub fn write_entries<E: Record, D: Disk>(
+    disk: &mut D,
+    buffer: &mut Vec<u8>,
+    entries: &mut Vec<E>,
+    gates: &mut Vec<u64>,
+    end: u64,
+    from: usize,
+) -> Result<u64, Failed>
     requires from { from < length entries.old.items }
     requires fits { All (λ entry. IsTrue (E.fits entry)) (drop from entries.old.items) }
     requires size { sum (map (λ entry. length (E.bytes_of entry)) (drop from entries.old.items)) ≤ 65536 }

@@ -71,14 +71,17 @@ impl<E: Record, D: Disk> DiskJournal<E, D> {
             return Err(Memory);
         }
         let entries = spare.small + spare.rows;
-        if self.entries.reserve(entries as usize).is_err() || self.gates.reserve(entries as usize).is_err() {
+        if self.entries.reserve(entries as usize).is_err()
+            || self.gates.reserve(entries as usize).is_err()
+        {
             return Err(Memory);
         }
         self.buffer.clear();
         if self.buffer.reserve(LARGEST).is_err() {
             return Err(Memory);
         }
-        self.disk.make_room(78 * spare.small + 65_542 * spare.rows, 4 * entries)?;
+        self.disk
+            .make_room(78 * spare.small + 65_542 * spare.rows, 4 * entries)?;
         self.spare = spare;
         Ok(())
     }
@@ -173,7 +176,14 @@ impl<E: Record, D: Disk> Journal<E> for DiskJournal<E, D> {
         self.spare = self.spare.less_one(entry.size());
         let from = self.entries.len();
         self.entries.push_reserved(entry);
-        match write_entries(&mut self.disk, &mut self.buffer, &mut self.entries, &mut self.gates, self.end, from) {
+        match write_entries(
+            &mut self.disk,
+            &mut self.buffer,
+            &mut self.entries,
+            &mut self.gates,
+            self.end,
+            from,
+        ) {
             Ok(end) => {
                 self.end = end;
                 Ok(())
@@ -211,7 +221,14 @@ impl<E: Record, D: Disk> Journal<E> for DiskJournal<E, D> {
             Ok(()) => {}
             Err(_) => unreachable!(),
         }
-        match write_entries(&mut self.disk, &mut self.buffer, &mut self.entries, &mut self.gates, self.end, from) {
+        match write_entries(
+            &mut self.disk,
+            &mut self.buffer,
+            &mut self.entries,
+            &mut self.gates,
+            self.end,
+            from,
+        ) {
             Ok(end) => {
                 self.end = end;
                 Ok(())
@@ -229,7 +246,13 @@ impl<E: Record, D: Disk> Reopen<E> for DiskJournal<E, D> {
         let bytes = 78 * self.spare.small + 65_542 * self.spare.rows;
         let calls = 4 * (self.spare.small + self.spare.rows);
         match open_disk(self.alloc, &mut self.disk, bytes, calls) {
-            Ok(Opened { entries, gates, end }) => {
+            Ok(
+                Opened {
+                    entries,
+                    gates,
+                    end,
+                },
+            ) => {
                 self.entries = entries;
                 self.gates = gates;
                 self.end = end;
@@ -298,8 +321,14 @@ impl<E: Record, D: Disk> DiskJournal<E, D> {
         let mut entries = Vec::new(alloc);
         let mut gates = Vec::new(alloc);
         let mut buffer = Vec::new(alloc);
-        if entries.reserve(1).is_err() || gates.reserve(1).is_err() || buffer.reserve(LARGEST).is_err() {
-            return Err(OpenError { back: disk, cause: OpenCause::Memory });
+        if entries.reserve(1).is_err()
+            || gates.reserve(1).is_err()
+            || buffer.reserve(LARGEST).is_err()
+        {
+            return Err(OpenError {
+                back: disk,
+                cause: OpenCause::Memory,
+            });
         }
         match format_disk(&mut disk, 65_542, 4) {
             Ok(()) => Ok(DiskJournal {
@@ -344,7 +373,13 @@ impl<E: Record, D: Disk> DiskJournal<E, D> {
     {
         let mut disk = disk;
         match open_disk(alloc, &mut disk, 0, 0) {
-            Ok(Opened { entries, gates, end }) => Ok(DiskJournal {
+            Ok(
+                Opened {
+                    entries,
+                    gates,
+                    end,
+                },
+            ) => Ok(DiskJournal {
                 alloc,
                 disk,
                 entries,
@@ -355,10 +390,22 @@ impl<E: Record, D: Disk> DiskJournal<E, D> {
                 fetched: 0,
                 failed: false,
             }),
-            Err(OpenFault::Disk) => Err(OpenError { back: disk, cause: OpenCause::Disk }),
-            Err(OpenFault::NotFormatted) => Err(OpenError { back: disk, cause: OpenCause::NotFormatted }),
-            Err(OpenFault::Damaged(place)) => Err(OpenError { back: disk, cause: OpenCause::Damaged(place) }),
-            Err(OpenFault::Memory) => Err(OpenError { back: disk, cause: OpenCause::Memory }),
+            Err(OpenFault::Disk) => Err(OpenError {
+                back: disk,
+                cause: OpenCause::Disk,
+            }),
+            Err(OpenFault::NotFormatted) => Err(OpenError {
+                back: disk,
+                cause: OpenCause::NotFormatted,
+            }),
+            Err(OpenFault::Damaged(place)) => Err(OpenError {
+                back: disk,
+                cause: OpenCause::Damaged(place),
+            }),
+            Err(OpenFault::Memory) => Err(OpenError {
+                back: disk,
+                cause: OpenCause::Memory,
+            }),
         }
     }
 
@@ -368,7 +415,11 @@ impl<E: Record, D: Disk> DiskJournal<E, D> {
         ensures { IsTrue (⟦<DiskJournal<E, D> as Journal<E>>⟧.tells self.now) → ⟦<DiskJournal<E, D> as Journal<E>>⟧.has_failed self.now ≡ false → place_found i (journal_of E.reading (⟦<DiskJournal<E, D> as Journal<E>>⟧.shown self.now)) ≡ Some result }
     {
         let at = i as usize;
-        if at < self.gates.len() { self.gates[at] } else { self.end }
+        if at < self.gates.len() {
+            self.gates[at]
+        } else {
+            self.end
+        }
     }
 
     /// Gives the disk back.

@@ -10,7 +10,11 @@ use cap_base::Memory;
 use std::alloc::Global;
 
 /// The record at a place, and its number of bytes.
-fn record_at<E: Record>(alloc: Global, bytes: &[u8], at: usize) -> Result<Option<(E, usize)>, Memory>
+fn record_at<E: Record>(
+    alloc: Global,
+    bytes: &[u8],
+    at: usize,
+) -> Result<Option<(E, usize)>, Memory>
     requires { at < length bytes.now }
     ensures found { IfOk result (λ found. found ≡ E.reading (drop at bytes.now)) }
     ensures size { IfOk result (λ found. IfSome found (λ entry. (1 ≤ entry.1) × (at + entry.1 ≤ length bytes.now))) }
@@ -58,7 +62,12 @@ fn group_size(image: &[u8], at: usize) -> Option<usize>
 }
 
 /// Reads the group behind an open gate, and adds its entries.
-fn read_group<E: Record>(alloc: Global, image: &[u8], at: usize, entries: &mut Vec<E>) -> Result<Option<usize>, Memory>
+fn read_group<E: Record>(
+    alloc: Global,
+    image: &[u8],
+    at: usize,
+    entries: &mut Vec<E>,
+) -> Result<Option<usize>, Memory>
     requires at { at ≤ length image.now }
     requires short { length image.now < 2 ^ 62 }
     ensures { IfOk result (IsGroupRead E.reading (drop at image.now) entries.old.items entries.new.items) }
@@ -84,7 +93,13 @@ fn note_gates(gates: &mut Vec<u64>, count: usize, place: u64) -> Result<(), Memo
 }
 
 // Reads the group behind the open gate at a place, and notes that gate for each of its entries. It gives the place of the next gate.
-fn next_gate<E: Record>(alloc: Global, image: &[u8], place: usize, entries: &mut Vec<E>, gates: &mut Vec<u64>) -> Result<usize, OpenFault>
+fn next_gate<E: Record>(
+    alloc: Global,
+    image: &[u8],
+    place: usize,
+    entries: &mut Vec<E>,
+    gates: &mut Vec<u64>,
+) -> Result<usize, OpenFault>
     requires place { place < length image.now }
     requires open { slice_index image.now place ≡ 165 }
     requires short { length image.now < 2 ^ 62 }
@@ -107,7 +122,12 @@ fn next_gate<E: Record>(alloc: Global, image: &[u8], place: usize, entries: &mut
 }
 
 /// Reads an image, adds its entries and the gate of each, and gives the place of its last gate.
-pub fn read_groups<E: Record>(alloc: Global, image: &[u8], entries: &mut Vec<E>, gates: &mut Vec<u64>) -> Result<u64, OpenFault>
+pub fn read_groups<E: Record>(
+    alloc: Global,
+    image: &[u8],
+    entries: &mut Vec<E>,
+    gates: &mut Vec<u64>,
+) -> Result<u64, OpenFault>
     requires some { 0 < length image.now }
     requires short { length image.now < 2 ^ 62 }
     requires empty { entries.old.items ≡ [] }

@@ -48,7 +48,11 @@ pub struct Opened<E: Record> {
 }
 
 // Reads a file of this length.
-fn read_file<E: Record, D: Disk>(alloc: Global, disk: &mut D, len: u64) -> Result<Opened<E>, OpenFault>
+fn read_file<E: Record, D: Disk>(
+    alloc: Global,
+    disk: &mut D,
+    len: u64,
+) -> Result<Opened<E>, OpenFault>
     requires { IsTrue (D.tells disk.old) → len ≡ length (D.contents disk.old).shown }
     ensures whole { IsTrue (D.tells disk.old) → IfOk result (λ found. journal_of E.reading (D.contents disk.old).shown ≡ Whole found.entries.items found.gates.items found.end) }
     ensures empty { IsTrue (D.tells disk.old) → IsErrOf result OpenFault.NotFormatted → (D.contents disk.old).shown ≡ [] }
@@ -75,14 +79,23 @@ fn read_file<E: Record, D: Disk>(alloc: Global, disk: &mut D, len: u64) -> Resul
     let mut entries = Vec::new(alloc);
     let mut gates = Vec::new(alloc);
     match read_groups(alloc, image.as_slice(), &mut entries, &mut gates) {
-        Ok(end) => Ok(Opened { entries, gates, end }),
+        Ok(end) => Ok(Opened {
+            entries,
+            gates,
+            end,
+        }),
         Err(OpenFault::Damaged(place)) => Err(OpenFault::Damaged(place)),
         Err(_) => Err(OpenFault::Memory),
     }
 }
 
 /// Opens a disk: one sync, one length, then reads alone. It keeps this room.
-pub fn open_disk<E: Record, D: Disk>(alloc: Global, disk: &mut D, bytes: u64, calls: u64) -> Result<Opened<E>, OpenFault>
+pub fn open_disk<E: Record, D: Disk>(
+    alloc: Global,
+    disk: &mut D,
+    bytes: u64,
+    calls: u64,
+) -> Result<Opened<E>, OpenFault>
     requires { calls < 2 ^ 63 }
     ensures whole { IsTrue (D.tells disk.old) → IfOk result (λ found. journal_of E.reading (D.contents disk.old).shown ≡ Whole found.entries.items found.gates.items found.end) }
     ensures empty { IsTrue (D.tells disk.old) → IsErrOf result OpenFault.NotFormatted → (D.contents disk.old).shown ≡ [] }

@@ -1,4 +1,4 @@
-use Rattle.std.proofs.Common.{◌≡◌, ◌+◌, ◌≤◌, ◌++◌, length, drop, All, IsTrue, vec_len, vec_capacity}
+use Rattle.std.proofs.Common.{◌≡◌, ◌+◌, ◌≤◌, ◌++◌, length, drop, All, IsTrue, vec_capacity}
 use Rattle.cap_journal.specs.Group.{joined}
 use Rattle.cap_journal.proofs.append.write_records.Given as goal
 

@@ -1,8 +1,8 @@
-use Rattle.std.proofs.Common.{◌≡◌, ◌⊎◌, inl, inr, ◌≤◌, ◌<◌, ◌+◌, ℕ, List, [], ◌∷◌, ◌++◌, length, take, drop, slice_index, IsTrue, refl, sym, ◌∙◌, ap, subst, arith, rules}
-use Rattle.cap_disk.specs.Disk.{Contents, LeavesOnly, KeepsOutside}
+use Rattle.std.proofs.Common.{inl, inr, ◌+◌, [], ◌∷◌, length, take, drop, slice_index, IsTrue, sym, subst}
+use Rattle.cap_disk.specs.Disk.{KeepsOutside}
 use Rattle.cap_disk.specs.Moments.{joined, weaker}
-use Rattle.cap_journal.specs.Group.{HasGate, HasGroup, HasGateOrGroup}
-use Rattle.cap_journal.proofs.Writes.{before_gate, staged, behind_gate, opened, length_front}
+use Rattle.cap_journal.specs.Group.{HasGateOrGroup}
+use Rattle.cap_journal.proofs.Writes.{before_gate, staged, behind_gate, length_front}
 use Rattle.cap_journal.proofs.group.write_group.Goals as goal
 
 pub returns-in_err-write_synced-clause-any_moment : goal.returns-in_err-write_synced-clause-any_moment

@@ -1,5 +1,5 @@
-use Rattle.std.proofs.Common.{◌≡◌, ◌≤◌, ◌<◌, ℕ, List, [], ◌∷◌, length, slice_index, IsTrue, refl, sym, ◌∙◌, ap, subst, arith, rules}
-use Rattle.cap_disk.specs.Disk.{Contents, MayLeave, LeavesOnly, KeepsOutside, all_synced}
+use Rattle.std.proofs.Common.{◌≡◌, ℕ, List, [], ◌∷◌, length, IsTrue, refl, sym, ◌∙◌, ap, subst, arith}
+use Rattle.cap_disk.specs.Disk.{Contents, MayLeave, KeepsOutside, all_synced}
 use Rattle.cap_disk.specs.Moments.{started, goes_on, leaves_one, leaves_none}
 use Rattle.cap_journal.proofs.group.write_synced.Goals as goal
 
@@ -37,8 +37,8 @@ returns-clause-any_moment g c tells =
     let here0 = λ (image : List ℕ) (left : g.D.Disk.left_since d0 (g.D.Disk.moment d0) image). keeps_self (range ∷ []) shown image (leaves_none (g.D.Disk.contents d0) image settled.nothing_written (g.met.D.Disk.only_now d0 image tells left) ∙ settled.same) in
     let here1 = λ (image : List ℕ) (left : MayLeave (g.D.Disk.contents d1) image). leaves_one (g.D.Disk.contents d1) range shown image (written.written ∙ ap (λ (l : List (ℕ × ℕ)). range ∷ l) settled.nothing_written) (written.synced ∙ settled.same) left in
     let here2 = λ (image : List ℕ) (left : MayLeave (g.D.Disk.contents d2) image).
-        (let is : image ≡ (g.D.Disk.contents d1).shown = leaves_none (all_synced (g.D.Disk.contents d1)) image refl (subst (λ (k : Contents). MayLeave k image) (c.in_ok-sync.ensures.synced tells1) left) in
-          here1 image (subst (λ (l : List ℕ). MayLeave (g.D.Disk.contents d1) l) (sym is) (g.met.D.Disk.shows_one d1 tells1))) in
+    (let is : image ≡ (g.D.Disk.contents d1).shown = leaves_none (all_synced (g.D.Disk.contents d1)) image refl (subst (λ (k : Contents). MayLeave k image) (c.in_ok-sync.ensures.synced tells1) left) in
+    here1 image (subst (λ (l : List ℕ). MayLeave (g.D.Disk.contents d1) l) (sym is) (g.met.D.Disk.shows_one d1 tells1))) in
     let run0 = started g.D.Disk.moment g.D.Disk.left_since d0 P here0 in
     let run1 = goes_on g.D.Disk.moment g.D.Disk.left_since d0 d0 d1 P _ run0 (c.write_at.ensures.time tells) here1 in
     goes_on g.D.Disk.moment g.D.Disk.left_since d0 d1 d2 P _ run1 (c.sync.ensures.time tells1) here2

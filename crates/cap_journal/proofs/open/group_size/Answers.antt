@@ -1,4 +1,4 @@
-use Rattle.std.proofs.Common.{◌≡◌, ◌≤◌, ◌<◌, ◌+◌, ◌-◌, ℕ, List, length, drop, sym, ◌∙◌, ap, subst, arith, length-drop}
+use Rattle.std.proofs.Common.{◌≡◌, ◌-◌, ℕ, List, length, drop, arith, length-drop}
 use Rattle.cap_journal.specs.File.{group_length, fits_group}
 use Rattle.cap_journal.proofs.Sizes.{number_is, fits_all, too_low, too_high, too_long, is_true}
 use Rattle.cap_journal.proofs.open.group_size.Goals as goal

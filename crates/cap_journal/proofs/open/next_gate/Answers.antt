@@ -1,5 +1,5 @@
-use Rattle.std.proofs.Common.{◌≡◌, ◌≤◌, ◌<◌, ◌+◌, ◌-◌, ◌++◌, ℕ, List, length, drop, replicate, Option, Some, None, refl, sym, ◌∙◌, ap, arith}
-use Rattle.cap_journal.specs.File.{group_of, group_length}
+use Rattle.std.proofs.Common.{◌≡◌, ◌≤◌, ◌+◌, ◌-◌, ◌++◌, ℕ, List, length, drop, replicate, Some, refl, sym, ◌∙◌, ap, arith}
+use Rattle.cap_journal.specs.File.{group_of}
 use Rattle.cap_journal.specs.Reading.{IsGroupRead}
 use Rattle.cap_journal.proofs.Sizes.{group_step}
 use Rattle.cap_journal.proofs.open.next_gate.Goals as goal

@@ -1,4 +1,4 @@
-use Rattle.std.proofs.Common.{◌≡◌, ◌+◌, ◌-◌, ◌≤◌, ◌++◌, length, replicate, vec_len, max}
+use Rattle.std.proofs.Common.{◌≡◌, ◌-◌, ◌≤◌, ◌++◌, length, replicate, max}
 use Rattle.cap_journal.proofs.open.note_gates.Given as goal
 
 abbrev pub invariant-loop-gates : goal.invariant-loop-gates

@@ -1,6 +1,6 @@
-use Rattle.std.proofs.Common.{◌≡◌, ◌≤◌, ◌<◌, ◌+◌, ◌-◌, ℕ, List, length, drop, take, Bool, true, false, Some, None, refl, sym, ◌∙◌, ap, subst, arith, length-drop}
-use Rattle.cap_journal.specs.File.{group_length, fits_group, group_of}
-use Rattle.cap_journal.specs.Reading.{all_records, with_front, some_if}
+use Rattle.std.proofs.Common.{ℕ, List, drop, Bool, ◌∙◌, ap, arith, length-drop}
+use Rattle.cap_journal.specs.File.{group_of}
+use Rattle.cap_journal.specs.Reading.{with_front, some_if}
 use Rattle.cap_journal.proofs.Sizes.{group_is, none_of}
 use Rattle.cap_journal.proofs.open.read_group.Goals as goal
 

@@ -1,7 +1,6 @@
-use Rattle.std.proofs.Common.{◌≡◌, ◌≤◌, ◌<◌, ◌+◌, ◌++◌, ℕ, List, [], ◌∷◌, length, drop, Option, Some, None, IfSome, refl, sym, ◌∙◌, ap, subst, arith}
-use Rattle.cap_journal.specs.File.{Reading}
+use Rattle.std.proofs.Common.{◌≡◌, ◌≤◌, ◌+◌, ℕ, List, length, drop, Some, None, sym, ◌∙◌, ap, arith}
 use Rattle.cap_journal.specs.Reading.{all_records, with_front}
-use Rattle.cap_journal.proofs.Readings.{one_read, none_read, all_read}
+use Rattle.cap_journal.proofs.Readings.{one_read, none_read}
 use Rattle.cap_journal.proofs.open.read_records.Goals as goal
 
 pub loop-at-preserved : goal.loop-at-preserved

@@ -1,4 +1,4 @@
-use Rattle.std.proofs.Common.{◌≡◌, ◌≤◌, ◌+◌, ◌-◌, ◌++◌, ℕ, List, length, take, drop, Option, Some, None, Result, Ok, Err, IfOk, IfSome, IsTrue, refl, sym, ◌∙◌, ap, subst, arith, length-take, length-drop}
+use Rattle.std.proofs.Common.{◌≡◌, ◌≤◌, ◌+◌, ◌-◌, ℕ, List, length, take, drop, Option, Some, None, Result, Ok, Err, IfOk, IfSome, sym, ap, subst, arith, length-take, length-drop}
 use Rattle.std.proofs.lemmas.List.{take_all}
 use Rattle.cap_journal.specs.File.{Reading}
 use Rattle.cap_journal.proofs.open.record_at.Goals as goal
@@ -21,5 +21,5 @@ returns-clause-size g c =
     let bytes : List ℕ = c.args.bytes.now in
     let at : ℕ = c.args.at in
     let sized : (value : g.row.E.Denot) (size : ℕ) (l : List ℕ) → g.E.Record.reading l ≡ Some (value, size) → (1 ≤ size) × (size ≤ length l) = λ value size l is.
-        (let law = g.met.E.Record.reads_only value size l is in sized_by g.E.Record.reading value size 0 l (g.E.Record.bytes_of value) law.1 law.2 (g.met.E.Record.size_low value law.0)) in
+    (let law = g.met.E.Record.reads_only value size l is in sized_by g.E.Record.reading value size 0 l (g.E.Record.bytes_of value) law.1 law.2 (g.met.E.Record.size_low value law.0)) in
     by_result g.E.Record.reading sized bytes at c.read.result (omega (arith, c.requires)) (subst (λ (l : List ℕ). IfOk c.read.result (λ found. found ≡ g.E.Record.reading l)) (take_all (length bytes - at) (drop at bytes) (omega (arith, length-drop at bytes))) c.read.ensures)

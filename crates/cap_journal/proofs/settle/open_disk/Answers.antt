@@ -1,4 +1,4 @@
-use Rattle.std.proofs.Common.{◌≡◌, IsOk, IsErrOf, Result, Ok, refl}
+use Rattle.std.proofs.Common.{IsOk, IsErrOf, refl}
 use Rattle.cap_journal.proofs.Counting.{read_counts}
 use Rattle.cap_journal.specs.declared.journal.OpenFault.TheVariants.{Disk, Memory}
 use Rattle.cap_journal.proofs.settle.open_disk.Goals as goal

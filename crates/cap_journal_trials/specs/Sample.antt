@@ -45,8 +45,14 @@ IsRecord value size bytes = IsTrue true × (size ≡ length (sample_bytes value)
 front_is : (bytes front : List ℕ) → starts_with eqb bytes front ≡ true → take (length front) bytes ≡ front
 front_is bytes front starts = ap (λ (l : List ℕ). take (length front) l) ((starts_is Decides-eqb bytes front (starts_with eqb bytes front) refl).0 starts) ∙ take_at front (drop (length front) bytes) (length front) refl
 
-of_value : (found value : Sample) (n size : ℕ) (bytes : List ℕ) → Some (found, n) ≡ Some (value, size) → n ≡ length (sample_bytes found) → take n bytes ≡ sample_bytes found → IsRecord value size bytes
-of_value found value n size bytes is long front = (refl, (let e : size ≡ length (sample_bytes value) = cc in e), (let e : take size bytes ≡ sample_bytes value = cc in e))
+of_value : (found value : Sample) (n size : ℕ) (bytes : List ℕ) → (let p : Option (Sample × ℕ) = Some (found, n) in p ≡ Some (value, size)) → n ≡ length (sample_bytes found) → take n bytes ≡ sample_bytes found → IsRecord value size bytes
+of_value found value n size bytes is long front =
+    let p : Sample × ℕ = (found, n) in
+    let q : Sample × ℕ = (value, size) in
+    let same : p ≡ q = cc in
+    let value_is : found ≡ value = ap (λ (r : Sample × ℕ). r.0) same in
+    let size_is : n ≡ size = ap (λ (r : Sample × ℕ). r.1) same in
+    (refl, sym size_is ∙ long ∙ ap (λ (v : Sample). length (sample_bytes v)) value_is, ap (λ (k : ℕ). take k bytes) (sym size_is) ∙ front ∙ ap sample_bytes value_is)
 
 by_fronts : (value : Sample) (size : ℕ) (bytes : List ℕ) (setup begin completed : Bool) → starts_with eqb bytes SETUP ≡ setup → starts_with eqb bytes BEGIN ≡ begin → starts_with eqb bytes COMPLETED ≡ completed → first_of setup begin completed ≡ Some (value, size) → IsRecord value size bytes
 by_fronts value size bytes true begin completed s b c is = of_value Setup value 25 size bytes is refl (front_is bytes SETUP s)

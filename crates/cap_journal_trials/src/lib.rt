@@ -3,6 +3,8 @@
 
 mod ledger;
 mod sample;
+#[cfg(test)]
+mod tests;
 
 pub use ledger::{Ledger, add_and_reopen};
 pub use sample::Sample;

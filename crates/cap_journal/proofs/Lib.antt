@@ -1,0 +1,6 @@
+pub mod Groups
+pub mod Readings
+pub mod Sizes
+pub mod Writes
+pub mod Appending
+pub mod Counting

@@ -1,0 +1,12 @@
+use Rattle.std.proofs.Common.{◌≡◌, ◌-◌, ◌≤◌, ◌++◌, length, replicate, max}
+use Rattle.cap_journal.proofs.open.note_gates.Given as goal
+
+abbrev pub invariant-loop-gates : goal.invariant-loop-gates
+invariant-loop-gates l = record {
+  noted : l.gates.items ≡ l.fn.gates.items ++ replicate (length l.gates.items - length l.fn.gates.items) l.place;
+  from : length l.fn.gates.items ≤ length l.gates.items;
+  most : length l.gates.items ≤ max (length l.fn.gates.items) l.count;
+}
+
+abbrev pub decreases-loop-gates : goal.decreases-loop-gates
+decreases-loop-gates l = l.count - length l.gates.items

@@ -1,0 +1,464 @@
+// A journal over a disk, which keeps its entries in memory.
+ghost use Rattle.std.specs.Prelude.{◌≡◌, ◌≤◌, ◌<◌, ◌+◌, ◌*◌, ◌^◌, ℕ, List, [], length, Bool, false, Option, Some, IsTrue, vec_len, vec_capacity};
+ghost use Rattle.std.specs.Coded.{Coded-set, coded_option, coded_list, coded_ℕ, Π_prop};
+ghost use Rattle.cap_disk.specs.Disk.{HasRoom};
+ghost use Rattle.cap_journal.specs.File.{entries_found, gates_found, end_found, journal_of};
+ghost use Rattle.cap_journal.specs.Spare.{bytes_for, entries_for};
+
+use crate::append::write_entries;
+use crate::settle::{Opened, format_disk, open_disk};
+use crate::{Journal, JournalError, OpenFault, Record, Reopen, Spare};
+use cap_base::Memory;
+use cap_disk::{Counted, Disk, Fill, MemoryDisk};
+use std::alloc::Global;
+
+// More entries are not reserved.
+const MOST: u64 = 1 << 40;
+
+// Behind this place nothing is reserved.
+const FAR: u64 = 1 << 60;
+
+// The bytes of the largest group with the gate behind it.
+const LARGEST: usize = 65_541;
+
+/// A journal over a disk, which keeps its entries in memory.
+#[derive(Drop)]
+pub struct DiskJournal<E: Record, D: Disk> {
+    alloc: Global,
+    disk: D,
+    entries: Vec<E>,
+    /// The gate of the group of each entry.
+    gates: Vec<u64>,
+    /// The last gate.
+    end: u64,
+    buffer: Vec<u8>,
+    spare: Spare,
+    fetched: u64,
+    failed: bool,
+    ghost written: { IsTrue (D.tells disk) → failed ≡ false → (D.contents disk).written ≡ [] },
+    ghost synced: { IsTrue (D.tells disk) → failed ≡ false → (D.contents disk).synced ≡ (D.contents disk).shown },
+    ghost parsed: { IsTrue (D.tells disk) → failed ≡ false → entries_found (journal_of E.reading (D.contents disk).shown) ≡ Some entries.items } by { Π_prop (λ _. Π_prop (λ _. Coded-set (coded_option (coded_list E.code)) _ _)) },
+    ghost placed: { IsTrue (D.tells disk) → failed ≡ false → gates_found (journal_of E.reading (D.contents disk).shown) ≡ Some gates.items } by { Π_prop (λ _. Π_prop (λ _. Coded-set (coded_option (coded_list coded_ℕ)) _ _)) },
+    ghost last_gate: { IsTrue (D.tells disk) → failed ≡ false → end_found (journal_of E.reading (D.contents disk).shown) ≡ Some end },
+    ghost room: { HasRoom (bytes_for spare) (4 * entries_for spare) (D.room disk) },
+    ghost entries_room: { vec_len entries + entries_for spare ≤ vec_capacity entries },
+    ghost gates_room: { length entries.items + entries_for spare ≤ vec_capacity gates },
+    ghost same_length: { length gates.items ≡ length entries.items },
+    ghost buffer_room: { 0 < entries_for spare → 65541 ≤ vec_capacity buffer },
+    ghost short: { end + bytes_for spare < 2 ^ 62 },
+}
+
+impl<E: Record, D: Disk> DiskJournal<E, D> {
+    ghost use Rattle.std.specs.Prelude.{◌≡◌, ◌≤◌, List, IsTrue, OnOk, OnErr};
+    ghost use Rattle.cap_disk.specs.Disk.{MayLeave, LeavesOnly, StaysCounted};
+
+    // Makes room for so many further entries.
+    fn make_spare(&mut self, spare: Spare) -> Result<(), Memory>
+        requires small { self.old.spare.small ≤ spare.small }
+        requires rows { self.old.spare.rows ≤ spare.rows }
+        ensures ok { OnOk result (self.new.spare ≡ spare) }
+        ensures err { OnErr result (self.new.spare ≡ self.old.spare) }
+        ensures entries { self.new.entries.items ≡ self.old.entries.items }
+        ensures fetched { self.new.fetched ≡ self.old.fetched }
+        ensures failed { self.new.failed ≡ self.old.failed }
+        ensures faults { D.faults self.new.disk ≡ D.faults self.old.disk }
+        ensures counts { StaysCounted (D.counts self.old.disk) (D.counts self.new.disk) }
+        ensures tells { D.tells self.new.disk ≡ D.tells self.old.disk }
+        ensures contents { IsTrue (D.tells self.old.disk) → D.contents self.new.disk ≡ D.contents self.old.disk }
+        ensures images { IsTrue (D.tells self.old.disk) → LeavesOnly D.moment D.left_since self.old.disk self.new.disk (MayLeave (D.contents self.old.disk)) }
+    {
+        if spare.small >= MOST || spare.rows >= MOST || self.end >= FAR {
+            return Err(Memory);
+        }
+        let entries = spare.small + spare.rows;
+        if self.entries.reserve(entries as usize).is_err()
+            || self.gates.reserve(entries as usize).is_err()
+        {
+            return Err(Memory);
+        }
+        self.buffer.clear();
+        if self.buffer.reserve(LARGEST).is_err() {
+            return Err(Memory);
+        }
+        self.disk
+            .make_room(78 * spare.small + 65_542 * spare.rows, 4 * entries)?;
+        self.spare = spare;
+        Ok(())
+    }
+}
+
+/// What stands on a disk.
+pub trait OnDisk<D> {
+    /// The disk.
+    ghost disk: { Self → D };
+}
+
+impl<E: Record, D: Disk> OnDisk<D> for DiskJournal<E, D> {
+    ghost disk = { λ journal. journal.disk };
+}
+
+impl<E: Record, D: Disk> Journal<E> for DiskJournal<E, D> {
+    ghost use Rattle.std.specs.Prelude.{◌≡◌, ◌<◌, ◌≤◌, ◌+◌, ◌++◌, ◌∷◌, List, [], length, map, sum, All, true, false, OnOk, OnErr, IsErrOf, IsTrue};
+    ghost use Rattle.cap_disk.specs.Disk.{MayLeave, LeavesOnly};
+    ghost use Rattle.cap_journal.specs.Spare.{Suffices, Takes};
+    ghost use Rattle.cap_journal.specs.Told.{IsCountedBy, HasAppendCause};
+    ghost use Rattle.cap_journal.specs.File.{HasEither};
+    ghost use Rattle.cap_journal.specs.Kept.{kept_by};
+
+    ghost entries = { λ journal. journal.entries.items };
+
+    ghost spare = { λ journal. journal.spare };
+
+    ghost fetched = { λ journal. journal.fetched };
+
+    ghost faults = { λ journal. D.faults journal.disk };
+
+    ghost counts = { λ journal. D.counts journal.disk };
+
+    ghost has_failed = { λ journal. journal.failed };
+
+    ghost is_readable = { λ _. true };
+
+    ghost tells = { λ journal. D.tells journal.disk };
+
+    ghost shown = { λ journal. (D.contents journal.disk).shown };
+
+    ghost may_leave = { λ journal. MayLeave (D.contents journal.disk) };
+
+    ghost moment = { λ journal. D.moment journal.disk };
+
+    ghost left_since = { λ journal. D.left_since journal.disk };
+
+    ghost kept = { λ journal image tells works left. kept_by E.reading (D.contents journal.disk) journal.entries.items image (journal.written tells works) (journal.synced tells works) (journal.parsed tells works) left };
+
+    ghost counts_now = { λ journal t image tells le left. D.counts_now journal.disk t image tells le left };
+
+    ghost only_now = { λ journal image tells left. D.only_now journal.disk image tells left };
+
+    ghost shows_one = { λ journal tells. D.shows_one journal.disk tells };
+
+    fn count(&self) -> u64 {
+        self.entries.len() as u64
+    }
+
+    fn entry(&mut self, i: u64) -> Result<E, JournalError> {
+        self.fetched = self.fetched.saturating_add(1);
+        match self.entries[i as usize].clone() {
+            Ok(entry) => Ok(entry),
+            Err(_) => Err(JournalError::Memory),
+        }
+    }
+
+    fn reserve(&mut self, n: usize) -> Result<(), Memory> {
+        if n as u64 <= self.spare.small {
+            return Ok(());
+        }
+        self.make_spare(Spare {
+            small: n as u64,
+            rows: self.spare.rows,
+        })
+    }
+
+    fn reserve_rows(&mut self) -> Result<(), Memory> {
+        if self.spare.rows >= 1 {
+            return Ok(());
+        }
+        self.make_spare(Spare {
+            small: self.spare.small,
+            rows: 1,
+        })
+    }
+
+    fn append(&mut self, entry: E) -> Result<(), JournalError> {
+        if self.failed {
+            return Err(JournalError::Failed);
+        }
+        self.spare = self.spare.less_one(entry.size());
+        let from = self.entries.len();
+        self.entries.push_reserved(entry);
+        match write_entries(
+            &mut self.disk,
+            &mut self.buffer,
+            &mut self.entries,
+            &mut self.gates,
+            self.end,
+            from,
+        ) {
+            Ok(end) => {
+                self.end = end;
+                Ok(())
+            }
+            Err(_) => {
+                self.failed = true;
+                Err(JournalError::Disk)
+            }
+        }
+    }
+
+    fn append_group(&mut self, added: Vec<E>) -> Result<(), JournalError>
+        requires some { 0 < length added.items }
+        requires fits { All (λ entry. IsTrue (E.fits entry)) added.items }
+        requires size { sum (map (λ entry. length (E.bytes_of entry)) added.items) ≤ 65536 }
+        requires spare { Suffices (map (λ entry. length (E.bytes_of entry)) added.items) self.old.spare }
+        ensures ok { OnOk result (self.new.entries.items ≡ self.old.entries.items ++ added.items) }
+        ensures err { OnErr result (self.new.entries.items ≡ self.old.entries.items) }
+        ensures spare { OnOk result (Takes (map (λ entry. length (E.bytes_of entry)) added.items) self.old.spare self.new.spare) }
+        ensures unspent { IsErrOf result JournalError.Failed → self.new.spare ≡ self.old.spare }
+        ensures cause { HasAppendCause self.old.failed self.new.failed (D.faults self.old.disk) (D.faults self.new.disk) result }
+        ensures counts { IsCountedBy 4 self.old.failed (D.counts self.old.disk) (D.counts self.new.disk) result }
+        ensures fetched { self.new.fetched ≡ self.old.fetched }
+        ensures tells { D.tells self.new.disk ≡ D.tells self.old.disk }
+        ensures any_moment { IsTrue (D.tells self.old.disk) → self.old.failed ≡ false → LeavesOnly D.moment D.left_since self.old.disk self.new.disk (HasEither E.reading self.old.entries.items (self.old.entries.items ++ added.items)) }
+        ensures refused { IsTrue (D.tells self.old.disk) → IsErrOf result JournalError.Failed → LeavesOnly D.moment D.left_since self.old.disk self.new.disk (MayLeave (D.contents self.old.disk)) }
+    {
+        if self.failed {
+            return Err(JournalError::Failed);
+        }
+        let mut added = added;
+        self.spare = self.spare.less(added.as_slice());
+        let from = self.entries.len();
+        match self.entries.append(&mut added) {
+            Ok(()) => {}
+            Err(_) => unreachable!(),
+        }
+        match write_entries(
+            &mut self.disk,
+            &mut self.buffer,
+            &mut self.entries,
+            &mut self.gates,
+            self.end,
+            from,
+        ) {
+            Ok(end) => {
+                self.end = end;
+                Ok(())
+            }
+            Err(_) => {
+                self.failed = true;
+                Err(JournalError::Disk)
+            }
+        }
+    }
+}
+
+impl<E: Record, D: Disk> Reopen<E> for DiskJournal<E, D> {
+    fn reopen(&mut self) -> Result<(), OpenFault> {
+        let bytes = 78 * self.spare.small + 65_542 * self.spare.rows;
+        let calls = 4 * (self.spare.small + self.spare.rows);
+        match open_disk(self.alloc, &mut self.disk, bytes, calls) {
+            Ok(
+                Opened {
+                    entries,
+                    gates,
+                    end,
+                },
+            ) => {
+                self.entries = entries;
+                self.gates = gates;
+                self.end = end;
+                self.spare = Spare::NONE;
+                self.failed = false;
+                Ok(())
+            }
+            Err(OpenFault::Disk) => {
+                self.failed = true;
+                Err(OpenFault::Disk)
+            }
+            Err(fault) => Err(fault),
+        }
+    }
+}
+
+/// A disk that was not opened, and why.
+#[derive(Drop)]
+pub struct OpenError<D: Drop> {
+    pub back: D,
+    pub cause: OpenCause,
+}
+
+/// Why a disk was not opened.
+#[derive(Clone, Copy, Debug, PartialEq, Eq)]
+pub enum OpenCause {
+    /// The disk that was to be formatted has so many bytes.
+    NotEmpty(u64),
+    /// The file has no bytes.
+    NotFormatted,
+    /// The group behind the open gate at this place isn't whole.
+    Damaged(u64),
+    Disk,
+    Memory,
+}
+
+impl<E: Record, D: Disk> DiskJournal<E, D> {
+    ghost use Rattle.std.specs.Prelude.{◌≡◌, ◌≤◌, ◌<◌, ℕ, List, [], ◌∷◌, length, ⊤, IsTrue, IfOk, IfErr, Some, false};
+    ghost use Rattle.cap_base.specs.Causes.{Rose};
+    ghost use Rattle.cap_disk.specs.Disk.{MayLeave, LeavesOnly};
+    ghost use Rattle.cap_journal.specs.File.{journal_of, Damaged, Has, IsFormatted, place_found};
+    ghost use Rattle.cap_journal.specs.Opening.{IsOpening, IsFormatting, StopsAtLength};
+
+    /// Formats an empty disk: one closed gate, and a sync. There is room for one entry of any size then.
+    pub fn init(alloc: Global, disk: D) -> Result<DiskJournal<E, D>, OpenError<D>>
+        ensures entries { IfOk result (λ journal. ⟦<DiskJournal<E, D> as Journal<E>>⟧.entries journal ≡ []) }
+        ensures spare { IfOk result (λ journal. 1 ≤ (⟦<DiskJournal<E, D> as Journal<E>>⟧.spare journal).rows) }
+        ensures works { IfOk result (λ journal. ⟦<DiskJournal<E, D> as Journal<E>>⟧.has_failed journal ≡ false) }
+        ensures fetched { IfOk result (λ journal. ⟦<DiskJournal<E, D> as Journal<E>>⟧.fetched journal ≡ 0) }
+        ensures tells { IfOk result (λ journal. ⟦<DiskJournal<E, D> as Journal<E>>⟧.tells journal ≡ D.tells disk) }
+        ensures shown { IsTrue (D.tells disk) → IfOk result (λ journal. ⟦<DiskJournal<E, D> as Journal<E>>⟧.shown journal ≡ 0 ∷ []) }
+        ensures counts { IfOk result (λ journal. IsFormatting (D.counts disk) (⟦<DiskJournal<E, D> as Journal<E>>⟧.counts journal) ⊤ ⊥) }
+        ensures faults { IfOk result (λ journal. D.faults disk ≤ ⟦<DiskJournal<E, D> as Journal<E>>⟧.faults journal) }
+        ensures empty { IsTrue (D.tells disk) → IfOk result (λ journal. (D.contents disk).shown ≡ []) }
+        ensures not_empty { IsTrue (D.tells disk) → (n : ℕ) → IfErr result (λ error. error.cause ≡ OpenCause.NotEmpty n → (n ≡ length (D.contents disk).shown) × (0 < n)) }
+        ensures never_read { (place : ℕ) → IfErr result (λ error. error.cause ≡ OpenCause.Damaged place → ⊥) }
+        ensures never_unformatted { IfErr result (λ error. error.cause ≡ OpenCause.NotFormatted → ⊥) }
+        ensures disk { IfErr result (λ error. error.cause ≡ OpenCause.Disk → Rose (D.faults disk) (D.faults error.back)) }
+        ensures back_faults { IfErr result (λ error. D.faults disk ≤ D.faults error.back) }
+        ensures back_tells { IfErr result (λ error. D.tells error.back ≡ D.tells disk) }
+        ensures back_contents { IsTrue (D.tells disk) → IfErr result (λ error. (error.cause ≡ OpenCause.Disk → ⊥) → D.contents error.back ≡ D.contents disk) }
+        ensures back_counts { IfErr result (λ error. IsFormatting (D.counts disk) (D.counts error.back) ⊥ (error.cause ≡ OpenCause.Disk)) }
+        ensures back_any_moment { IsTrue (D.tells disk) → IfErr result (λ error. (error.cause ≡ OpenCause.Disk → ⊥) → LeavesOnly D.moment D.left_since disk error.back (MayLeave (D.contents disk))) }
+    {
+        let mut disk = disk;
+        let mut entries = Vec::new(alloc);
+        let mut gates = Vec::new(alloc);
+        let mut buffer = Vec::new(alloc);
+        if entries.reserve(1).is_err()
+            || gates.reserve(1).is_err()
+            || buffer.reserve(LARGEST).is_err()
+        {
+            return Err(OpenError {
+                back: disk,
+                cause: OpenCause::Memory,
+            });
+        }
+        match format_disk(&mut disk, 65_542, 4) {
+            Ok(()) => Ok(DiskJournal {
+                alloc,
+                disk,
+                entries,
+                gates,
+                end: 0,
+                buffer,
+                spare: Spare { small: 0, rows: 1 },
+                fetched: 0,
+                failed: false,
+            }),
+            Err(cause) => Err(OpenError { back: disk, cause }),
+        }
+    }
+
+    /// Opens a disk that holds a journal's file: one sync, one length, then reads alone.
+    pub fn open(alloc: Global, disk: D) -> Result<DiskJournal<E, D>, OpenError<D>>
+        ensures entries { IsTrue (D.tells disk) → IfOk result (λ journal. Has E.reading (D.contents disk).shown (⟦<DiskJournal<E, D> as Journal<E>>⟧.entries journal)) }
+        ensures works { IfOk result (λ journal. ⟦<DiskJournal<E, D> as Journal<E>>⟧.has_failed journal ≡ false) }
+        ensures fetched { IfOk result (λ journal. ⟦<DiskJournal<E, D> as Journal<E>>⟧.fetched journal ≡ 0) }
+        ensures tells { IfOk result (λ journal. ⟦<DiskJournal<E, D> as Journal<E>>⟧.tells journal ≡ D.tells disk) }
+        ensures shown { IsTrue (D.tells disk) → IfOk result (λ journal. ⟦<DiskJournal<E, D> as Journal<E>>⟧.shown journal ≡ (D.contents disk).shown) }
+        ensures counts { IfOk result (λ journal. IsOpening (D.counts disk) (⟦<DiskJournal<E, D> as Journal<E>>⟧.counts journal) ⊤ ⊥ ⊥) }
+        ensures faults { IfOk result (λ journal. D.faults disk ≤ ⟦<DiskJournal<E, D> as Journal<E>>⟧.faults journal) }
+        ensures any_moment { IsTrue (D.tells disk) → IfOk result (λ journal. LeavesOnly D.moment D.left_since disk (⟦<DiskJournal<E, D> as OnDisk<D>>⟧.disk journal) (MayLeave (D.contents disk))) }
+        ensures empty { IsTrue (D.tells disk) → IfErr result (λ error. error.cause ≡ OpenCause.NotFormatted → (D.contents disk).shown ≡ []) }
+        ensures damaged { IsTrue (D.tells disk) → (place : ℕ) → IfErr result (λ error. error.cause ≡ OpenCause.Damaged place → journal_of E.reading (D.contents disk).shown ≡ Damaged place) }
+        ensures never_full { (n : ℕ) → IfErr result (λ error. error.cause ≡ OpenCause.NotEmpty n → ⊥) }
+        ensures disk { IfErr result (λ error. error.cause ≡ OpenCause.Disk → Rose (D.faults disk) (D.faults error.back)) }
+        ensures back_faults { IfErr result (λ error. D.faults disk ≤ D.faults error.back) }
+        ensures back_tells { IfErr result (λ error. D.tells error.back ≡ D.tells disk) }
+        ensures back_shown { IsTrue (D.tells disk) → IfErr result (λ error. (D.contents error.back).shown ≡ (D.contents disk).shown) }
+        ensures back_counts { IfErr result (λ error. IsOpening (D.counts disk) (D.counts error.back) ⊥ (error.cause ≡ OpenCause.Disk) (error.cause ≡ OpenCause.Memory)) }
+        ensures back_any_moment { IsTrue (D.tells disk) → IfErr result (λ error. LeavesOnly D.moment D.left_since disk error.back (MayLeave (D.contents disk))) }
+        // on a disk whose every image is a whole file
+        ensures formatted { IsTrue (D.tells disk) → ((image : List ℕ) → MayLeave (D.contents disk) image → IsFormatted E.reading image) → IfErr result (λ error. error.cause ≡ OpenCause.NotFormatted → ⊥) }
+        ensures whole { IsTrue (D.tells disk) → ((image : List ℕ) → MayLeave (D.contents disk) image → IsFormatted E.reading image) → (place : ℕ) → IfErr result (λ error. error.cause ≡ OpenCause.Damaged place → ⊥) }
+        // the sync went well where the length failed: one image is left
+        ensures one_left { IsTrue (D.tells disk) → StopsAtLength (D.counts disk) → IfErr result (λ error. error.cause ≡ OpenCause.Disk → (image : List ℕ) → MayLeave (D.contents error.back) image → image ≡ (D.contents disk).shown) }
+    {
+        let mut disk = disk;
+        match open_disk(alloc, &mut disk, 0, 0) {
+            Ok(
+                Opened {
+                    entries,
+                    gates,
+                    end,
+                },
+            ) => Ok(DiskJournal {
+                alloc,
+                disk,
+                entries,
+                gates,
+                end,
+                buffer: Vec::new(alloc),
+                spare: Spare::NONE,
+                fetched: 0,
+                failed: false,
+            }),
+            Err(OpenFault::Disk) => Err(OpenError {
+                back: disk,
+                cause: OpenCause::Disk,
+            }),
+            Err(OpenFault::NotFormatted) => Err(OpenError {
+                back: disk,
+                cause: OpenCause::NotFormatted,
+            }),
+            Err(OpenFault::Damaged(place)) => Err(OpenError {
+                back: disk,
+                cause: OpenCause::Damaged(place),
+            }),
+            Err(OpenFault::Memory) => Err(OpenError {
+                back: disk,
+                cause: OpenCause::Memory,
+            }),
+        }
+    }
+
+    /// The place of the gate of the group that holds an entry, or of the last gate where the number is the count.
+    pub fn place_of(&self, i: u64) -> u64
+        requires { i ≤ length (⟦<DiskJournal<E, D> as Journal<E>>⟧.entries self.now) }
+        ensures { IsTrue (⟦<DiskJournal<E, D> as Journal<E>>⟧.tells self.now) → ⟦<DiskJournal<E, D> as Journal<E>>⟧.has_failed self.now ≡ false → place_found i (journal_of E.reading (⟦<DiskJournal<E, D> as Journal<E>>⟧.shown self.now)) ≡ Some result }
+    {
+        let at = i as usize;
+        if at < self.gates.len() {
+            self.gates[at]
+        } else {
+            self.end
+        }
+    }
+
+    /// Gives the disk back.
+    pub fn into_disk(self) -> D
+        ensures { result ≡ ⟦<DiskJournal<E, D> as OnDisk<D>>⟧.disk self }
+    {
+        self.disk
+    }
+}
+
+impl<E: Record> DiskJournal<E, MemoryDisk> {
+    ghost use Rattle.std.specs.Prelude.{◌≡◌};
+    ghost use Rattle.cap_disk.specs.MemoryDisk.{history_of, room_of, faults_of, cut_of, armed};
+
+    /// Lets the power be cut at a call of its disk, as the disk's own call does, and changes nothing else.
+    pub fn arm_cut(&mut self, call: u64, fill: Fill, counted: Counted)
+        ensures history { history_of (⟦<DiskJournal<E, MemoryDisk> as OnDisk<MemoryDisk>>⟧.disk self.new) ≡ history_of (⟦<DiskJournal<E, MemoryDisk> as OnDisk<MemoryDisk>>⟧.disk self.old) }
+        ensures cut { cut_of (⟦<DiskJournal<E, MemoryDisk> as OnDisk<MemoryDisk>>⟧.disk self.new) ≡ cut_of (⟦<DiskJournal<E, MemoryDisk> as OnDisk<MemoryDisk>>⟧.disk self.old) }
+        ensures counts { ⟦<DiskJournal<E, MemoryDisk> as Journal<E>>⟧.counts self.new ≡ armed (⟦<DiskJournal<E, MemoryDisk> as OnDisk<MemoryDisk>>⟧.disk self.old) counted call }
+        ensures faults { ⟦<DiskJournal<E, MemoryDisk> as Journal<E>>⟧.faults self.new ≡ ⟦<DiskJournal<E, MemoryDisk> as Journal<E>>⟧.faults self.old }
+        ensures entries { ⟦<DiskJournal<E, MemoryDisk> as Journal<E>>⟧.entries self.new ≡ ⟦<DiskJournal<E, MemoryDisk> as Journal<E>>⟧.entries self.old }
+        ensures spare { ⟦<DiskJournal<E, MemoryDisk> as Journal<E>>⟧.spare self.new ≡ ⟦<DiskJournal<E, MemoryDisk> as Journal<E>>⟧.spare self.old }
+        ensures fetched { ⟦<DiskJournal<E, MemoryDisk> as Journal<E>>⟧.fetched self.new ≡ ⟦<DiskJournal<E, MemoryDisk> as Journal<E>>⟧.fetched self.old }
+        ensures has_failed { ⟦<DiskJournal<E, MemoryDisk> as Journal<E>>⟧.has_failed self.new ≡ ⟦<DiskJournal<E, MemoryDisk> as Journal<E>>⟧.has_failed self.old }
+    {
+        self.disk.arm_cut(call, fill, counted);
+    }
+
+    /// Lets one call of its disk fail, as the disk's own call does, and changes nothing else.
+    pub fn arm_fail(&mut self, call: u64, fill: Fill, counted: Counted)
+        ensures history { history_of (⟦<DiskJournal<E, MemoryDisk> as OnDisk<MemoryDisk>>⟧.disk self.new) ≡ history_of (⟦<DiskJournal<E, MemoryDisk> as OnDisk<MemoryDisk>>⟧.disk self.old) }
+        ensures cut { cut_of (⟦<DiskJournal<E, MemoryDisk> as OnDisk<MemoryDisk>>⟧.disk self.new) ≡ cut_of (⟦<DiskJournal<E, MemoryDisk> as OnDisk<MemoryDisk>>⟧.disk self.old) }
+        ensures counts { ⟦<DiskJournal<E, MemoryDisk> as Journal<E>>⟧.counts self.new ≡ armed (⟦<DiskJournal<E, MemoryDisk> as OnDisk<MemoryDisk>>⟧.disk self.old) counted call }
+        ensures faults { ⟦<DiskJournal<E, MemoryDisk> as Journal<E>>⟧.faults self.new ≡ ⟦<DiskJournal<E, MemoryDisk> as Journal<E>>⟧.faults self.old }
+        ensures entries { ⟦<DiskJournal<E, MemoryDisk> as Journal<E>>⟧.entries self.new ≡ ⟦<DiskJournal<E, MemoryDisk> as Journal<E>>⟧.entries self.old }
+        ensures spare { ⟦<DiskJournal<E, MemoryDisk> as Journal<E>>⟧.spare self.new ≡ ⟦<DiskJournal<E, MemoryDisk> as Journal<E>>⟧.spare self.old }
+        ensures fetched { ⟦<DiskJournal<E, MemoryDisk> as Journal<E>>⟧.fetched self.new ≡ ⟦<DiskJournal<E, MemoryDisk> as Journal<E>>⟧.fetched self.old }
+        ensures has_failed { ⟦<DiskJournal<E, MemoryDisk> as Journal<E>>⟧.has_failed self.new ≡ ⟦<DiskJournal<E, MemoryDisk> as Journal<E>>⟧.has_failed self.old }
+    {
+        self.disk.arm_fail(call, fill, counted);
+    }
+}

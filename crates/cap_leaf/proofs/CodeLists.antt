@@ -1,5 +1,5 @@
 -- The codes of a list, one by one.
-use Rattle.std.proofs.Common.{◌≡◌, ℕ, zero, suc, ◌+◌, ◌≤◌, ◌<◌, Bool, true, false, not, List, [], ◌∷◌, length, map, Bor, get_or, refl, sym, ◌∙◌, ap, arith, rules, inl, inr, Option, Some, subst}
+use Rattle.std.proofs.Common.{◌≡◌, ℕ, zero, suc, ◌+◌, ◌≤◌, ◌<◌, Bool, true, false, not, List, [], ◌∷◌, length, Bor, get_or, refl, ◌∙◌, ap, arith, rules, Some}
 use Rattle.std.specs.Prelude.{nat_le, ◌&&◌}
 use Rattle.std.specs.List.{list_all}
 use Rattle.std.specs.Str.{bytes_eq}
@@ -8,7 +8,7 @@ use Rattle.cap_leaf.specs.declared.kinds.CodeList.{CodeList}
 use Rattle.cap_leaf.specs.declared.kinds.CodeList.TheVariants as list
 use Rattle.cap_leaf.specs.declared.kinds.Kind.{Kind}
 use Rattle.cap_leaf.specs.declared.kinds.Kind.TheVariants.{Caaa001, Caaa002, Caaa003, Caaa004, Caaa005, Caaa006, Caaa007, Caaa008, Caaa009, Caaa010, Caaa011, Caaa012, Caaa013, Caaa014, Caaa015, Catm001, Catm002, Catm003, Catm004}
-use Rattle.cap_leaf.specs.Codes.{codes_of, function_codes, is_list, texts, text_at, code_at}
+use Rattle.cap_leaf.specs.Codes.{codes_of, function_codes, texts, text_at, code_at}
 use Rattle.cap_leaf.specs.Spelling.{place_in}
 use Rattle.cap_leaf.proofs.Moments.{both}
 

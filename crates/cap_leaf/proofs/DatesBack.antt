@@ -1,15 +1,12 @@
 -- What the canonical spelling of a date and time reads as.
-use Rattle.std.proofs.Common.{◌≡◌, ℕ, zero, suc, ◌+◌, ◌*◌, ◌/◌, ◌%◌, ◌≤◌, ◌<◌, Bool, true, false, List, [], ◌∷◌, ◌++◌, length, take, drop, refl, sym, ◌∙◌, ap, arith, rules, Option, Some, None, subst}
-use Rattle.std.specs.Prelude.{◌&&◌, ◌==◌, nat_le, nat_lt, codes, if◌then◌else◌}
-use Rattle.std.specs.Char.{is_ascii_digit, digit_value}
-use Rattle.std.specs.Str.{bytes_eq}
+use Rattle.std.proofs.Common.{◌≡◌, ℕ, ◌+◌, ◌/◌, ◌%◌, ◌≤◌, ◌<◌, Bool, true, false, List, [], ◌∷◌, ◌++◌, length, drop, refl, sym, ◌∙◌, ap, arith, rules, Option, Some, None}
+use Rattle.std.specs.Prelude.{◌&&◌, ◌==◌, nat_le, nat_lt, if◌then◌else◌}
 use Rattle.std.specs.Str.Parse.{digits_value}
-use Rattle.std.proofs.lemmas.Bool.Decides.{nat_tests}
 use Rattle.std.proofs.lemmas.List.{drop-drop}
 use Rattle.cap_leaf.specs.declared.zone.Zone.{Zone}
 use Rattle.cap_leaf.specs.declared.zone.Zone.TheVariants.{Local, Utc, Offset}
 use Rattle.cap_leaf.specs.Date.{DateParts, is_day, days_in, is_millis, is_zone, is_date_time}
-use Rattle.cap_leaf.specs.DateText.{part, number_at, are_digits, has_digits, has_marks, has_ranges, is_moment, fraction_of, is_fraction, millis_of, is_offset, is_zone_text, zone_of, fraction_in, zone_in, is_date, date_of, date_time_of}
+use Rattle.cap_leaf.specs.DateText.{number_at, are_digits, is_moment, fraction_of, is_fraction, millis_of, is_zone_text, zone_of, fraction_in, zone_in, is_date, date_of, date_time_of}
 use Rattle.cap_leaf.specs.Canonical.{moment_text, fraction_text, zone_text, date_text}
 use Rattle.cap_leaf.proofs.Moments.{both}
 use Rattle.cap_leaf.proofs.ReadBack.{digit_byte, digit_is}
@@ -132,8 +129,8 @@ clock y m d h i s = record { year = y; month = m; day = d; hour = h; minute = i;
 moment_reads : (y m d h i s : ℕ) (rest : List ℕ) → Parts y m d h i s → Reads y m d h i s (moment_text (clock y m d h i s) ++ rest)
 moment_reads y m d h i s rest p = record {
   moment = rw (four_digits y p.year, two_digits m p.month, two_digits d p.day, two_digits h p.hour, two_digits i p.minute, two_digits s p.second)
-    (rw (four_value y p.year, two_value m p.month, two_value d p.day, two_value h p.hour, two_value i p.minute, two_value s p.second)
-    (rw (p.calendar, p.hours, p.minutes, p.seconds) refl));
+      (rw (four_value y p.year, two_value m p.month, two_value d p.day, two_value h p.hour, two_value i p.minute, two_value s p.second)
+      (rw (p.calendar, p.hours, p.minutes, p.seconds) refl));
   year = four_value y p.year;
   month = two_value m p.month;
   day = two_value d p.day;
@@ -170,11 +167,11 @@ date_reads d e =
     let read = moment_reads d.year d.month d.day d.hour d.minute d.second (fraction_text d.millis ++ zone_text d.zone) parts in
     let fraction : fraction_in (date_text d) ≡ fraction_text d.millis = fraction_first d.millis d.zone in
     let zone : zone_in (date_text d) ≡ zone_text d.zone =
-      ap (λ t. drop (19 + length t) (date_text d)) fraction ∙ zone_from d in
+    ap (λ t. drop (19 + length t) (date_text d)) fraction ∙ zone_from d in
     let fr = fraction_reads d.millis h.0 in
     let zr = zone_reads d.zone h.1 in
     let test : is_date (date_text d) ≡ true = all_three (is_moment (date_text d)) (is_fraction (fraction_in (date_text d))) (is_zone_text (zone_in (date_text d))) read.moment
-      (ap is_fraction fraction ∙ fr.0) (ap is_zone_text zone ∙ zr.0) in
+    (ap is_fraction fraction ∙ fr.0) (ap is_zone_text zone ∙ zr.0) in
     ap (λ t. if t then Some (date_of (date_text d)) else None) test
     ∙ ap Some (same_parts d.year d.month d.day d.hour d.minute d.second _ _ _ _ _ _ d.millis _ d.zone _ read.year read.month read.day read.hour read.minute read.second
-      (ap millis_of fraction ∙ fr.1) (ap zone_of zone ∙ zr.1))
+    (ap millis_of fraction ∙ fr.1) (ap zone_of zone ∙ zr.1))

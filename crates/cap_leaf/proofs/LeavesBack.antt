@@ -1,17 +1,12 @@
 -- The canonical spelling of a leaf reads as that leaf.
-use Rattle.std.proofs.Common.{◌≡◌, ℕ, zero, suc, ◌+◌, ◌^◌, ◌≤◌, ◌<◌, Bool, true, false, List, [], ◌∷◌, length, refl, sym, ◌∙◌, ap, arith, rules, Option, Some, None, subst, inl, inr}
-use Rattle.std.specs.Prelude.{◌&&◌, nat_le, nat_lt, option_map, if◌then◌else◌}
-use Rattle.std.specs.Str.{bytes_eq}
-use Rattle.std.proofs.lemmas.Bool.Decides.{nat_tests}
+use Rattle.std.proofs.Common.{◌≡◌, ℕ, ◌^◌, ◌≤◌, ◌<◌, Bool, true, List, length, sym, ◌∙◌, ap, rules, Some, subst}
+use Rattle.std.specs.Prelude.{nat_le, nat_lt, option_map}
 use Rattle.cap_base.specs.Text.{is_ident, is_account, is_code6, spelt_if}
 use Rattle.cap_leaf.specs.declared.kinds.LeafKind.{LeafKind}
 use Rattle.cap_leaf.specs.declared.kinds.LeafKind.TheVariants as kind
-use Rattle.cap_leaf.specs.declared.kinds.CodeList.{CodeList}
-use Rattle.cap_leaf.specs.declared.kinds.CodeList.TheVariants as list
-use Rattle.cap_leaf.specs.declared.kinds.Kind.{Kind}
 use Rattle.cap_leaf.specs.declared.leaf.Leaf.{Leaf}
 use Rattle.cap_leaf.specs.declared.leaf.Leaf.TheVariants as leaf
-use Rattle.cap_leaf.specs.Codes.{codes_of, is_list, text_at, code_at}
+use Rattle.cap_leaf.specs.Codes.{codes_of, is_list, code_at}
 use Rattle.cap_leaf.specs.Spelling.{leaf_of, is_kind, is_leaf, IsLeafOf, IsValue, place_in}
 use Rattle.cap_leaf.specs.Canonical.{leaf_text}
 use Rattle.cap_leaf.proofs.Moments.{both}

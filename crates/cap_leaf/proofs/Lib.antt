@@ -4,3 +4,4 @@ pub mod CodeLists
 pub mod ReadBack
 pub mod DatesBack
 pub mod LeavesBack
+pub mod UtcDays

@@ -4,7 +4,7 @@ use Rattle.std.specs.Prelude.{◌&&◌, ◌||◌, nat_lt, nat_le, codes}
 use Rattle.std.specs.Str.{bytes_eq}
 use Rattle.std.proofs.lemmas.Bool.Decides.{nat_tests}
 use Rattle.cap_leaf.specs.declared.zone.Zone.{Zone}
-use Rattle.cap_leaf.specs.Date.{DateParts, is_day, is_millis, is_zone, is_date_time}
+use Rattle.cap_leaf.specs.Date.{is_day, is_millis, is_zone, is_date_time}
 use Rattle.cap_leaf.specs.DateText.{part, number_at, are_digits, has_digits, has_marks, has_ranges, is_moment, is_offset, is_zone_text}
 
 pub both : (a b : Bool) → (a && b) ≡ true → (a ≡ true) × (b ≡ true)

@@ -1,10 +1,9 @@
 -- What the canonical spelling of a leaf reads as.
-use Rattle.std.proofs.Common.{◌≡◌, ℕ, zero, suc, ◌+◌, ◌-◌, ◌*◌, ◌/◌, ◌%◌, ◌^◌, ◌≤◌, ◌<◌, Bool, true, false, List, [], ◌∷◌, ◌++◌, length, take, drop, refl, sym, ◌∙◌, ap, arith, rules, Option, Some, None, subst, lit<}
-use Rattle.std.specs.Prelude.{◌&&◌, ◌==◌, nat_le, nat_lt, option_map, codes, if◌then◌else◌}
+use Rattle.std.proofs.Common.{◌≡◌, ℕ, ◌+◌, ◌*◌, ◌/◌, ◌%◌, ◌^◌, ◌≤◌, ◌<◌, true, false, List, [], ◌∷◌, ◌++◌, length, drop, refl, ◌∙◌, ap, arith, Some, None, lit<}
+use Rattle.std.specs.Prelude.{◌&&◌, nat_le, if◌then◌else◌}
 use Rattle.std.specs.List.{list_all, take_while}
 use Rattle.std.specs.Char.{is_ascii_digit, digit_value}
 use Rattle.std.specs.Fmt.{decimal}
-use Rattle.std.specs.Str.{bytes_eq}
 use Rattle.std.specs.Str.Parse.{digits_value, AllDigits}
 use Rattle.std.proofs.Math.Nat.{pow-le-pow_right}
 use Rattle.std.proofs.lemmas.Bool.Decides.{nat_tests}
@@ -13,13 +12,9 @@ use Rattle.std.proofs.lemmas.Fmt.{decimal_is_IsNumeral, decimal_nonempty, length
 use Rattle.std.proofs.lemmas.Grind.{pow_more}
 use Rattle.std.proofs.lemmas.Str.{digit_value_digit}
 use Rattle.std.proofs.lemmas.List.Sums.{take_while-cons}
-use Rattle.cap_base.specs.Text.{is_run}
 use Rattle.cap_base.specs.Number.{number_of}
 use Rattle.cap_base.specs.Amount.{IsAmount, whole_of, tail_of, is_tail, cents_of, hundredths_of, is_decimal, decimal_of, amount_of, amount_text}
-use Rattle.cap_base.proofs.Digits.{is_digit_range}
 use Rattle.cap_leaf.proofs.Moments.{both}
-use Rattle.cap_leaf.specs.declared.leaf.Leaf.{Leaf}
-use Rattle.cap_leaf.specs.declared.leaf.Leaf.TheVariants as leaf
 
 -- a byte that writes a digit
 pub digit_byte : (x : ℕ) → x < 10 → is_ascii_digit (48 + x) ≡ true

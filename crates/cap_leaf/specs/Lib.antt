@@ -6,3 +6,4 @@ pub mod View
 pub mod Trees
 pub mod Spelling
 pub mod Canonical
+pub mod Moment

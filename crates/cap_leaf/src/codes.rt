@@ -5,14 +5,22 @@ ghost use Rattle.cap_leaf.specs.Spelling.{place_in};
 use crate::kinds::{CodeList, Kind};
 
 static RESPONSES: [&str; 4] = ["APPR", "DECL", "PART", "TECH"];
-static REASONS: [&str; 9] = ["UNPR", "IMSG", "PARS", "SECU", "INTP", "RCPP", "DPMG", "VERS", "MSGT"];
+
+static REASONS: [&str; 9] = [
+    "UNPR", "IMSG", "PARS", "SECU", "INTP", "RCPP", "DPMG", "VERS", "MSGT",
+];
+
 static WANTED: [&str; 2] = ["AQPR", "MGTP"];
+
 static SETS: [&str; 3] = ["AQPR", "MGTP", "STRP"];
+
 static ACTS: [&str; 2] = ["DWNL", "UPLD"];
 
 static FUNCTIONS: [&str; 15] = [
-    "AUTQ", "AUTP", "CMPV", "CMPK", "CCAQ", "CCAP", "CCAV", "CCAK", "RCLQ", "RCLP", "BTCQ", "BTCP", "DGNQ", "DGNP", "RJCT",
+    "AUTQ", "AUTP", "CMPV", "CMPK", "CCAQ", "CCAP", "CCAV", "CCAK", "RCLQ", "RCLP", "BTCQ", "BTCP",
+    "DGNQ", "DGNP", "RJCT",
 ];
+
 static DIGITS: [&str; 10] = ["0", "1", "2", "3", "4", "5", "6", "7", "8", "9"];
 
 // The code of a message's function. A `catm` message has none.

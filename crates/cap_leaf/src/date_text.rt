@@ -45,7 +45,8 @@ fn has_marks(text: &[u8]) -> bool
 {
     part(text, 4, 1) == b"-".as_slice()
         && (part(text, 7, 1) == b"-".as_slice()
-            && (part(text, 10, 1) == b"T".as_slice() && (part(text, 13, 1) == b":".as_slice() && part(text, 16, 1) == b":".as_slice())))
+            && (part(text, 10, 1) == b"T".as_slice()
+                && (part(text, 13, 1) == b":".as_slice() && part(text, 16, 1) == b":".as_slice())))
 }
 
 // The number that digits write.
@@ -118,7 +119,8 @@ fn is_offset(text: &[u8]) -> bool
 {
     text.len() == 6
         && ((part(text, 0, 1) == b"+".as_slice() || part(text, 0, 1) == b"-".as_slice())
-            && ((are_digits(part(text, 1, 2), 2) && (part(text, 3, 1) == b":".as_slice() && are_digits(part(text, 4, 2), 2)))
+            && ((are_digits(part(text, 1, 2), 2)
+                && (part(text, 3, 1) == b":".as_slice() && are_digits(part(text, 4, 2), 2)))
                 && (number_at(text, 1, 2) < 24 && number_at(text, 4, 2) < 60)))
 }
 
@@ -179,9 +181,16 @@ fn parts(text: &[u8], fraction: &[u8], place: &[u8]) -> DateTime
     requires moment { moment_test text.now ≡ true }
     requires fraction { fraction_test fraction.now ≡ true }
     requires place { zone_text_test place.now ≡ true }
-    ensures { result ≡ record { year = number_of 0 4 text.now; month = number_of 5 2 text.now; day = number_of 8 2 text.now;
-        hour = number_of 11 2 text.now; minute = number_of 14 2 text.now; second = number_of 17 2 text.now;
-        millis = millis_of fraction.now; zone = zone_of place.now } }
+    ensures { result ≡ record {
+      year = number_of 0 4 text.now;
+      month = number_of 5 2 text.now;
+      day = number_of 8 2 text.now;
+      hour = number_of 11 2 text.now;
+      minute = number_of 14 2 text.now;
+      second = number_of 17 2 text.now;
+      millis = millis_of fraction.now;
+      zone = zone_of place.now;
+    } }
 {
     DateTime {
         year: number_at(text, 0, 4),

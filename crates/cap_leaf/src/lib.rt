@@ -9,8 +9,11 @@ mod fault;
 mod header;
 mod kinds;
 mod leaf;
+mod moment;
 mod schema;
 mod spelling;
+#[cfg(test)]
+mod tests;
 mod tree;
 mod writing;
 mod zone;

@@ -1,0 +1,12 @@
+pub mod Common
+pub mod Complete
+pub mod Sound
+pub mod Completable
+pub mod Docs
+pub mod Tight
+pub mod Tokens
+pub mod Came
+pub mod Verdict
+pub mod Seeing
+pub mod Writing
+pub mod Canonicals

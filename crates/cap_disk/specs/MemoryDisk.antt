@@ -5,6 +5,7 @@ use Rattle.cap_disk.specs.Switch.{told, numbers_on}
 use Rattle.cap_disk.specs.Recorded.{History, history_in, contents_in, moment_in, left_in, room_in, restarted}
 use Rattle.cap_disk.specs.declared.arming.Fill.{Fill}
 use Rattle.cap_disk.specs.declared.arming.Counted.{Counted}
+use Rattle.cap_disk.specs.declared.arming.Plan.{Plan}
 use Rattle.cap_disk.specs.declared.recorded.Call.{Call}
 use Rattle.cap_disk.specs.declared.memory.MemoryDisk.{MemoryDisk}
 
@@ -34,6 +35,10 @@ told_of disk = told disk.switch
 -- what the cut leaves in ranges that were not synced, once the power was cut
 abbrev pub cut_of : MemoryDisk → Option Fill
 cut_of disk = disk.switch.cut
+
+-- what is armed
+abbrev pub plan_of : MemoryDisk → Plan
+plan_of disk = disk.switch.plan
 
 -- the two numbers once this call is armed
 abbrev pub armed : MemoryDisk → Counted → ℕ → Option Counts

@@ -13,10 +13,10 @@ pub struct MemoryDisk {
 }
 
 impl MemoryDisk {
-    ghost use Rattle.std.specs.Prelude.{◌≡◌, ◌≤◌, ℕ, List, [], IfOk, true, Some, None, IsTrue, ◌↔◌, IsSome};
+    ghost use Rattle.std.specs.Prelude.{false, ◌≡◌, ◌≤◌, ℕ, List, [], IfOk, true, Some, None, IsTrue, ◌↔◌, IsSome};
     ghost use Rattle.cap_disk.specs.Disk.{MayLeave};
     ghost use Rattle.cap_disk.specs.History.{start};
-    ghost use Rattle.cap_disk.specs.MemoryDisk.{history_of, contents_of, faults_of, room_of, told_of, cut_of, armed, restart_image, record_of, reads_of};
+    ghost use Rattle.cap_disk.specs.MemoryDisk.{plan_of, history_of, contents_of, faults_of, room_of, told_of, cut_of, armed, restart_image, record_of, reads_of};
 
     /// An empty disk, with no room.
     pub fn new(alloc: Global) -> Result<MemoryDisk, Memory>
@@ -38,6 +38,7 @@ impl MemoryDisk {
         ensures room { room_of self.new ≡ room_of self.old }
         ensures faults { faults_of self.new ≡ faults_of self.old }
         ensures cut { cut_of self.new ≡ cut_of self.old }
+        ensures plan { plan_of self.new ≡ record { left = call; cuts = true; fill = fill; counted = counted } }
         ensures counts { told_of self.new ≡ armed self.old counted call }
     {
         self.switch.plan = Plan {
@@ -55,6 +56,7 @@ impl MemoryDisk {
         ensures room { room_of self.new ≡ room_of self.old }
         ensures faults { faults_of self.new ≡ faults_of self.old }
         ensures cut { cut_of self.new ≡ cut_of self.old }
+        ensures plan { plan_of self.new ≡ record { left = call; cuts = false; fill = fill; counted = counted } }
         ensures counts { told_of self.new ≡ armed self.old counted call }
     {
         self.switch.plan = Plan {

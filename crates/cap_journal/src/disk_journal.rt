@@ -431,13 +431,14 @@ impl<E: Record, D: Disk> DiskJournal<E, D> {
 }
 
 impl<E: Record> DiskJournal<E, MemoryDisk> {
-    ghost use Rattle.std.specs.Prelude.{◌≡◌};
-    ghost use Rattle.cap_disk.specs.MemoryDisk.{history_of, room_of, faults_of, cut_of, armed};
+    ghost use Rattle.std.specs.Prelude.{◌≡◌, true, false};
+    ghost use Rattle.cap_disk.specs.MemoryDisk.{plan_of, history_of, room_of, faults_of, cut_of, armed};
 
     /// Lets the power be cut at a call of its disk, as the disk's own call does, and changes nothing else.
     pub fn arm_cut(&mut self, call: u64, fill: Fill, counted: Counted)
         ensures history { history_of (⟦<DiskJournal<E, MemoryDisk> as OnDisk<MemoryDisk>>⟧.disk self.new) ≡ history_of (⟦<DiskJournal<E, MemoryDisk> as OnDisk<MemoryDisk>>⟧.disk self.old) }
         ensures cut { cut_of (⟦<DiskJournal<E, MemoryDisk> as OnDisk<MemoryDisk>>⟧.disk self.new) ≡ cut_of (⟦<DiskJournal<E, MemoryDisk> as OnDisk<MemoryDisk>>⟧.disk self.old) }
+        ensures plan { plan_of (⟦<DiskJournal<E, MemoryDisk> as OnDisk<MemoryDisk>>⟧.disk self.new) ≡ record { left = call; cuts = true; fill = fill; counted = counted } }
         ensures counts { ⟦<DiskJournal<E, MemoryDisk> as Journal<E>>⟧.counts self.new ≡ armed (⟦<DiskJournal<E, MemoryDisk> as OnDisk<MemoryDisk>>⟧.disk self.old) counted call }
         ensures faults { ⟦<DiskJournal<E, MemoryDisk> as Journal<E>>⟧.faults self.new ≡ ⟦<DiskJournal<E, MemoryDisk> as Journal<E>>⟧.faults self.old }
         ensures entries { ⟦<DiskJournal<E, MemoryDisk> as Journal<E>>⟧.entries self.new ≡ ⟦<DiskJournal<E, MemoryDisk> as Journal<E>>⟧.entries self.old }
@@ -452,6 +453,7 @@ impl<E: Record> DiskJournal<E, MemoryDisk> {
     pub fn arm_fail(&mut self, call: u64, fill: Fill, counted: Counted)
         ensures history { history_of (⟦<DiskJournal<E, MemoryDisk> as OnDisk<MemoryDisk>>⟧.disk self.new) ≡ history_of (⟦<DiskJournal<E, MemoryDisk> as OnDisk<MemoryDisk>>⟧.disk self.old) }
         ensures cut { cut_of (⟦<DiskJournal<E, MemoryDisk> as OnDisk<MemoryDisk>>⟧.disk self.new) ≡ cut_of (⟦<DiskJournal<E, MemoryDisk> as OnDisk<MemoryDisk>>⟧.disk self.old) }
+        ensures plan { plan_of (⟦<DiskJournal<E, MemoryDisk> as OnDisk<MemoryDisk>>⟧.disk self.new) ≡ record { left = call; cuts = false; fill = fill; counted = counted } }
         ensures counts { ⟦<DiskJournal<E, MemoryDisk> as Journal<E>>⟧.counts self.new ≡ armed (⟦<DiskJournal<E, MemoryDisk> as OnDisk<MemoryDisk>>⟧.disk self.old) counted call }
         ensures faults { ⟦<DiskJournal<E, MemoryDisk> as Journal<E>>⟧.faults self.new ≡ ⟦<DiskJournal<E, MemoryDisk> as Journal<E>>⟧.faults self.old }
         ensures entries { ⟦<DiskJournal<E, MemoryDisk> as Journal<E>>⟧.entries self.new ≡ ⟦<DiskJournal<E, MemoryDisk> as Journal<E>>⟧.entries self.old }

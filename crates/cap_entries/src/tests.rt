@@ -334,20 +334,25 @@ fn row(key: &[u8], value: &[u8]) -> Option<Row> {
     })
 }
 
+fn fault_of(alloc: Global, rows: &[Row]) -> Result<Option<RowFault>, Memory> {
+    let rows = Vec::from_slice(alloc, rows)?;
+    Ok(RowSet::new(rows).err())
+}
+
 #[test]
 fn row_sets_are_made(rt: HostRuntime) -> Result<(), Fail> {
     let alloc = rt.alloc();
     let a = row(b"A", b"1").ok_or("row")?;
     let b = row(b"B", b"1").ok_or("row")?;
     let again = row(b"A", b"2").ok_or("row")?;
-    assert_eq!(rt; RowSet::new(Vec::new(alloc)).err(), Some(RowFault::Empty));
+    let rows = [a, b, again];
+    assert_eq!(rt; fault_of(alloc, &rows[..0])?, Some(RowFault::Empty));
+    assert_eq!(rt; fault_of(alloc, &rows[..2])?, None);
+    assert_eq!(rt; fault_of(alloc, &rows)?, Some(RowFault::Repeated(2)));
     let mut many = Vec::new(alloc);
-    many.resize(257, a)?;
-    assert_eq!(rt; RowSet::new(many).err(), Some(RowFault::TooMany(257)));
-    let repeated = Vec::from_slice(alloc, &[a, b, again, a])?;
-    assert_eq!(rt; RowSet::new(repeated).err(), Some(RowFault::Repeated(2)));
-    let good = Vec::from_slice(alloc, &[a, b])?;
-    assert!(rt; RowSet::new(good).is_ok());
+    many.resize(257, b)?;
+    assert_eq!(rt; fault_of(alloc, &many)?, Some(RowFault::TooMany(257)));
+    assert_eq!(rt; fault_of(alloc, &many[..256])?, Some(RowFault::Repeated(1)));
     Ok(())
 }
 

@@ -10,3 +10,12 @@ pub mod Verdict
 pub mod Seeing
 pub mod Writing
 pub mod Canonicals
+pub mod Fronts
+pub mod Seeking
+pub mod Closing
+pub mod Keeping
+pub mod Stepping
+pub mod Pieced
+pub mod Answering
+pub mod OnlyChild
+pub mod SoughtRow

@@ -225,6 +225,7 @@ document_token d Catm003 = record { front = document_front Catm003; form = refl;
 document_token d Catm004 = record { front = document_front Catm004; form = refl; begun = refl; plain = refl; short = omega arith }
 
 is_first_document : (k : Kind) → first_piece (document_text k) ≡ Some (document k)
+unfolding kinds
 is_first_document Caaa001 = refl
 is_first_document Caaa002 = refl
 is_first_document Caaa003 = refl
@@ -246,6 +247,7 @@ is_first_document Catm003 = refl
 is_first_document Catm004 = refl
 
 is_document : (k : Kind) → document_in kinds (document_text k) ≡ Some (document k)
+unfolding kinds
 is_document Caaa001 = refl
 is_document Caaa002 = refl
 is_document Caaa003 = refl

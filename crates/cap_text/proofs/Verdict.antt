@@ -120,18 +120,19 @@ last_take n r =
     ap (λ t. cond (body_ended n && t) Secu (cond (begins_with (codes "<") (take 128 r)) Imsg Pars)) (begins_take (codes "<SctyTrlr>") r 128 (omega arith))
     ∙ ap (λ t. cond (body_ended n && begins_with (codes "<SctyTrlr>") r) Secu (cond t Imsg Pars)) (begins_take (codes "<") r 128 (omega arith))
 
-leaf_take : (o : Option (List ℕ)) (n : Known) (r : List ℕ) → leaf_reason o n (take 128 r) ≡ leaf_reason o n r
-leaf_take None n r = last_take n r
-leaf_take (Some tag) n r = ap (λ t. cond (bytes_eq (codes "PrtcolVrsn") tag && t) Vers Imsg) (digit_take r 128 (omega arith))
+leaf_take : (n : Known) (r : List ℕ) → leaf_reason n (take 128 r) ≡ leaf_reason n r
+leaf_take n r =
+    ap (λ t. cond n.open_leaf (cond (n.version && t) Vers Imsg) (last_reason n (take 128 r))) (digit_take r 128 (omega arith))
+    ∙ ap (λ t. cond n.open_leaf (cond (n.version && first_is_digit r) Vers Imsg) t) (last_take n r)
 
 pub reason_take : (n : Known) (ends : Bool) (r : List ℕ) → reason_by n ends (take 128 r) ≡ reason_by n ends r
 reason_take n ends r =
     let front = codes "<Document xmlns=\"urn:x-cap20:" in
     let short = codes "<Document xmlns=\"" in
-    ap (λ t. cond (not ends) Pars (cond (is_none n.named && (t && other_version (drop 29 (take 128 r)))) Vers (cond (is_none n.named && begins_with short (take 128 r)) Msgt (leaf_reason n.open_leaf n (take 128 r))))) (begins_take front r 128 (omega arith))
-    ∙ ap (λ t. cond (not ends) Pars (cond (is_none n.named && (begins_with front r && t)) Vers (cond (is_none n.named && begins_with short (take 128 r)) Msgt (leaf_reason n.open_leaf n (take 128 r))))) (other_take r)
-    ∙ ap (λ t. cond (not ends) Pars (cond (is_none n.named && (begins_with front r && other_version (drop 29 r))) Vers (cond (is_none n.named && t) Msgt (leaf_reason n.open_leaf n (take 128 r))))) (begins_take short r 128 (omega arith))
-    ∙ ap (λ t. cond (not ends) Pars (cond (is_none n.named && (begins_with front r && other_version (drop 29 r))) Vers (cond (is_none n.named && begins_with short r) Msgt t))) (leaf_take n.open_leaf n r)
+    ap (λ t. cond (not ends) Pars (cond (is_none n.named && (t && other_version (drop 29 (take 128 r)))) Vers (cond (is_none n.named && begins_with short (take 128 r)) Msgt (leaf_reason n (take 128 r))))) (begins_take front r 128 (omega arith))
+    ∙ ap (λ t. cond (not ends) Pars (cond (is_none n.named && (begins_with front r && t)) Vers (cond (is_none n.named && begins_with short (take 128 r)) Msgt (leaf_reason n (take 128 r))))) (other_take r)
+    ∙ ap (λ t. cond (not ends) Pars (cond (is_none n.named && (begins_with front r && other_version (drop 29 r))) Vers (cond (is_none n.named && t) Msgt (leaf_reason n (take 128 r))))) (begins_take short r 128 (omega arith))
+    ∙ ap (λ t. cond (not ends) Pars (cond (is_none n.named && (begins_with front r && other_version (drop 29 r))) Vers (cond (is_none n.named && begins_with short r) Msgt t))) (leaf_take n r)
 
 -- ---- the verdict
 

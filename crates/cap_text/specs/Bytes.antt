@@ -42,7 +42,7 @@ blanked (within k s) = within k s
 abbrev pub passed_by : Known → ℕ → Known
 passed_by n m = record n { place = n.place + m }
 
-abbrev pub kinds : List Kind
+unfoldable pub kinds : List Kind
 kinds = Caaa001 ∷ Caaa002 ∷ Caaa003 ∷ Caaa004 ∷ Caaa005 ∷ Caaa006 ∷ Caaa007 ∷ Caaa008 ∷ Caaa009 ∷ Caaa010 ∷ Caaa011 ∷ Caaa012 ∷ Caaa013 ∷ Caaa014 ∷ Caaa015 ∷ Catm001 ∷ Catm002 ∷ Catm003 ∷ Catm004 ∷ []
 
 -- the opening of `Document` that a text is

@@ -1,9 +1,10 @@
 -- The first fault of bytes that are no document.
-use Rattle.std.specs.Prelude.{ℕ, zero, suc, ◌≡◌, ◌≤◌, ◌+◌, ◌-◌, Bool, true, false, ◌&&◌, ◌||◌, not, if◌then◌else◌, ◌==◌, List, [], ◌∷◌, ◌++◌, length, drop, codes, fold, Option, Some, None}
+use Rattle.std.specs.Prelude.{ℕ, zero, suc, ◌≡◌, ◌≤◌, ◌+◌, ◌-◌, Bool, true, false, ◌&&◌, ◌||◌, not, if◌then◌else◌, ◌==◌, List, [], ◌∷◌, ◌++◌, length, drop, codes, fold, Option, Some, None, unwrap_or}
 use Rattle.std.specs.List.{list_any}
 use Rattle.std.specs.Char.{is_ascii_digit}
 use Rattle.std.specs.Str.{bytes_eq}
-use Rattle.std.specs.Str.Parse.{digits_value}
+use Rattle.cap_base.specs.Text.{ident_of}
+use Rattle.cap_base.specs.Number.{number_of}
 use Rattle.cap_base.specs.declared.codes.Reason.{Reason}
 use Rattle.cap_base.specs.declared.codes.Reason.TheVariants.{Imsg, Pars, Secu, Vers, Msgt}
 use Rattle.cap_leaf.specs.declared.kinds.Kind.{Kind}
@@ -37,14 +38,15 @@ pub record Known : Type 0 where
   pub initiator : Bool
   -- the id of `InitgPty`
   pub from : Option (List ℕ)
-  -- how many structures are open, and the tag of the one that was closed last
+  -- how many structures are open, and whether one is closed and the one that was closed last isn't the header
   pub depth : ℕ
-  pub closed : Option (List ℕ)
-  -- the tag of the last piece, where it is the opening of a leaf
-  pub open_leaf : Option (List ℕ)
+  pub closed : Bool
+  -- the last piece is the opening of a leaf, and it is that of `PrtcolVrsn`
+  pub open_leaf : Bool
+  pub version : Bool
 
 abbrev pub nothing : Known
-nothing = record { place = 0; named = None; exchange = 0; initiator = false; from = None; depth = 0; closed = None; open_leaf = None }
+nothing = record { place = 0; named = None; exchange = 0; initiator = false; from = None; depth = 0; closed = false; open_leaf = false; version = false }
 
 -- what a piece tells besides the number of its bytes
 abbrev pub told : Known → Piece → Known
@@ -52,28 +54,29 @@ told n (declaration standalone) = n
 told n (blank text) = n
 told n (document k) = record n { named = Some k; depth = 1 }
 told n (opening tag) = record n { depth = n.depth + 1; initiator = bytes_eq tag (codes "InitgPty") }
-told n (closing tag) = record n { depth = n.depth - 1; closed = Some tag }
-told n (leaf_opening tag) = record n { open_leaf = Some tag }
+told n (closing tag) = record n { depth = n.depth - 1; closed = not (bytes_eq tag (codes "Hdr")) }
+told n (leaf_opening tag) = record n { open_leaf = true; version = bytes_eq tag (codes "PrtcolVrsn") }
 told n (ending tag content) = record n {
-  exchange = if bytes_eq tag (codes "XchgId") then digits_value 10 content else n.exchange;
-  from = if bytes_eq tag (codes "Id") && n.initiator then Some content else n.from;
-  open_leaf = None;
+  exchange = if bytes_eq tag (codes "XchgId") then unwrap_or (number_of 10 content) 0 else n.exchange;
+  from = if bytes_eq tag (codes "Id") && n.initiator then ident_of content else n.from;
+  open_leaf = false;
+  version = false;
 }
 
+-- the same, with the number of its bytes
+abbrev pub told_by : Known → Piece → ℕ → Known
+told_by n p bytes = record (told n p) { place = n.place + bytes }
+
 abbrev pub after : Known → Piece → Known
-after n p = record (told n p) { place = n.place + length (piece_text p) }
+after n p = told_by n p (length (piece_text p))
 
 abbrev pub known : List Piece → Known
 known ps = fold after nothing ps
 
 -- the body is closed and its message element isn't: `Document` and the message element are open, and the structure
 -- that was closed last isn't the header
-abbrev pub other_than : List ℕ → Option (List ℕ) → Bool
-other_than tag None = false
-other_than tag (Some t) = not (bytes_eq tag t)
-
 abbrev pub body_ended : Known → Bool
-body_ended n = (n.depth == 2) && other_than (codes "Hdr") n.closed
+body_ended n = (n.depth == 2) && n.closed
 
 abbrev pub begins_with : List ℕ → List ℕ → Bool
 begins_with [] bytes = true
@@ -106,9 +109,8 @@ last_reason n r =
     if body_ended n && begins_with (codes "<SctyTrlr>") r then Secu
     else if begins_with (codes "<") r then Imsg else Pars
 
-abbrev pub leaf_reason : Option (List ℕ) → Known → List ℕ → Reason
-leaf_reason (Some tag) n r = if bytes_eq (codes "PrtcolVrsn") tag && first_is_digit r then Vers else Imsg
-leaf_reason None n r = last_reason n r
+abbrev pub leaf_reason : Known → List ℕ → Reason
+leaf_reason n r = if n.open_leaf then (if n.version && first_is_digit r then Vers else Imsg) else last_reason n r
 
 -- the reason, by what the pieces tell, whether a `>` stands in the rest, and the rest
 abbrev pub reason_by : Known → Bool → List ℕ → Reason
@@ -116,7 +118,7 @@ reason_by n ends r =
     if not ends then Pars
     else if is_none n.named && (begins_with (codes "<Document xmlns=\"urn:x-cap20:") r && other_version (drop 29 r)) then Vers
     else if is_none n.named && begins_with (codes "<Document xmlns=\"") r then Msgt
-    else leaf_reason n.open_leaf n r
+    else leaf_reason n r
 
 abbrev pub reason_of : Known → List ℕ → Reason
 reason_of n r = reason_by n (list_any is_end r) r

@@ -4,3 +4,13 @@ pub mod Written
 pub mod Faults
 pub mod Machine
 pub mod Bytes
+pub mod SeenKnown
+pub mod Inner
+pub mod Places
+pub mod SeenFrames
+pub mod SeenRows
+pub mod SeenDocs
+pub mod Room
+pub mod Seen
+pub mod Verdicts
+pub mod Reads

@@ -1,4 +1,4 @@
-ghost use Rattle.std.specs.Prelude.{◌≡◌, ◌++◌, true, OnOk, IfOk, ℕ, codes};
+ghost use Rattle.std.specs.Prelude.{◌≡◌, ◌++◌, ◌∷◌, [], true, OnOk, IfOk, ℕ, codes};
 ghost use Rattle.cap_leaf.specs.Trees.{data_of, children_view};
 ghost use Rattle.cap_leaf.specs.View.{row_of, table_view, content_view};
 ghost use Rattle.cap_leaf.specs.Spelling.{is_leaf, is_kind, IsLeafOf, leaf_of};
@@ -128,12 +128,38 @@ pub fn message_number(kind: Kind) -> &'static str
     }
 }
 
+/// The opening of a message's `Document`, up to its `>`.
+pub(crate) fn document_front(kind: Kind) -> &'static str
+    ensures { result.now ++ 62 ∷ [] ≡ document_text kind }
+{
+    match kind {
+        Kind::Caaa001 => "<Document xmlns=\"urn:x-cap20:1:caaa.001\"",
+        Kind::Caaa002 => "<Document xmlns=\"urn:x-cap20:1:caaa.002\"",
+        Kind::Caaa003 => "<Document xmlns=\"urn:x-cap20:1:caaa.003\"",
+        Kind::Caaa004 => "<Document xmlns=\"urn:x-cap20:1:caaa.004\"",
+        Kind::Caaa005 => "<Document xmlns=\"urn:x-cap20:1:caaa.005\"",
+        Kind::Caaa006 => "<Document xmlns=\"urn:x-cap20:1:caaa.006\"",
+        Kind::Caaa007 => "<Document xmlns=\"urn:x-cap20:1:caaa.007\"",
+        Kind::Caaa008 => "<Document xmlns=\"urn:x-cap20:1:caaa.008\"",
+        Kind::Caaa009 => "<Document xmlns=\"urn:x-cap20:1:caaa.009\"",
+        Kind::Caaa010 => "<Document xmlns=\"urn:x-cap20:1:caaa.010\"",
+        Kind::Caaa011 => "<Document xmlns=\"urn:x-cap20:1:caaa.011\"",
+        Kind::Caaa012 => "<Document xmlns=\"urn:x-cap20:1:caaa.012\"",
+        Kind::Caaa013 => "<Document xmlns=\"urn:x-cap20:1:caaa.013\"",
+        Kind::Caaa014 => "<Document xmlns=\"urn:x-cap20:1:caaa.014\"",
+        Kind::Caaa015 => "<Document xmlns=\"urn:x-cap20:1:caaa.015\"",
+        Kind::Catm001 => "<Document xmlns=\"urn:x-cap20:1:catm.001\"",
+        Kind::Catm002 => "<Document xmlns=\"urn:x-cap20:1:catm.002\"",
+        Kind::Catm003 => "<Document xmlns=\"urn:x-cap20:1:catm.003\"",
+        Kind::Catm004 => "<Document xmlns=\"urn:x-cap20:1:catm.004\"",
+    }
+}
+
 fn put_document_opening(kind: Kind, out: &mut Vec<u8>) -> Result<(), AllocError>
     ensures { OnOk result (out.new.items ≡ out.old.items ++ document_text kind) }
 {
-    out.extend_from_slice(b"<Document xmlns=\"urn:x-cap20:1:")?;
-    out.extend_from_slice(message_number(kind).as_bytes())?;
-    out.extend_from_slice(b"\">")?;
+    out.extend_from_slice(document_front(kind).as_bytes())?;
+    out.push(b'>')?;
     Ok(())
 }
 

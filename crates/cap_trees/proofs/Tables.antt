@@ -8,7 +8,7 @@ use Rattle.cap_leaf.specs.declared.kinds.Kind.TheVariants.{Caaa001, Caaa002, Caa
 use Rattle.cap_leaf.specs.Schema.{Content, Table, leaf, all, one_of, end, row}
 use Rattle.cap_leaf.specs.Spelling.{leaf_of, is_kind}
 use Rattle.cap_trees.specs.Tables.{table_of}
-use Rattle.cap_trees.specs.Tests.{AllTags, Other, Differ, DifferIn, no_tag, differ_test, differ_in, is_name, sample, is_some, has_row, sound_test, sound_in, Sound, SoundIn, short_in}
+use Rattle.cap_trees.specs.Tests.{AllTags, Other, Differ, DifferIn, no_tag, differ_test, differ_in, is_name, sample, is_some, has_row, sound_test, sound_in, Sound, SoundIn, bounded_in}
 
 both : (a b : Bool) → (a && b) ≡ true → (a ≡ true) × (b ≡ true)
 both true b e = (refl, e)
@@ -101,23 +101,23 @@ tables_sound Catm002 = sound (table_of Catm002) refl
 tables_sound Catm003 = sound (table_of Catm003) refl
 tables_sound Catm004 = sound (table_of Catm004) refl
 
-pub tables_short : (k : Kind) → short_in (all (table_of k)) ≡ true
-tables_short Caaa001 = refl
-tables_short Caaa002 = refl
-tables_short Caaa003 = refl
-tables_short Caaa004 = refl
-tables_short Caaa005 = refl
-tables_short Caaa006 = refl
-tables_short Caaa007 = refl
-tables_short Caaa008 = refl
-tables_short Caaa009 = refl
-tables_short Caaa010 = refl
-tables_short Caaa011 = refl
-tables_short Caaa012 = refl
-tables_short Caaa013 = refl
-tables_short Caaa014 = refl
-tables_short Caaa015 = refl
-tables_short Catm001 = refl
-tables_short Catm002 = refl
-tables_short Catm003 = refl
-tables_short Catm004 = refl
+pub tables_bounded : (k : Kind) → bounded_in (all (table_of k)) ≡ true
+tables_bounded Caaa001 = refl
+tables_bounded Caaa002 = refl
+tables_bounded Caaa003 = refl
+tables_bounded Caaa004 = refl
+tables_bounded Caaa005 = refl
+tables_bounded Caaa006 = refl
+tables_bounded Caaa007 = refl
+tables_bounded Caaa008 = refl
+tables_bounded Caaa009 = refl
+tables_bounded Caaa010 = refl
+tables_bounded Caaa011 = refl
+tables_bounded Caaa012 = refl
+tables_bounded Caaa013 = refl
+tables_bounded Caaa014 = refl
+tables_bounded Caaa015 = refl
+tables_bounded Catm001 = refl
+tables_bounded Catm002 = refl
+tables_bounded Catm003 = refl
+tables_bounded Catm004 = refl

@@ -99,13 +99,13 @@ abbrev pub rows_in : Table → ℕ
 rows_in end = 0
 rows_in (row t least most c rest) = suc (rows_in rest)
 
--- every table in it has fewer than 256 rows, so that a place in it is a byte
+-- every table in it has fewer than 256 rows, so that a place in it is a byte, and every kind of leaf is in its range
 abbrev mutual
-  pub short_test : Table → Bool
-  short_test end = true
-  short_test (row t least most c rest) = short_in c && short_test rest
+  pub bounded_test : Table → Bool
+  bounded_test end = true
+  bounded_test (row t least most c rest) = bounded_in c && bounded_test rest
 
-  pub short_in : Content → Bool
-  short_in (leaf k) = true
-  short_in (all t) = nat_lt (rows_in t) 256 && short_test t
-  short_in (one_of t) = nat_lt (rows_in t) 256 && short_test t
+  pub bounded_in : Content → Bool
+  bounded_in (leaf k) = is_kind k
+  bounded_in (all t) = nat_lt (rows_in t) 256 && bounded_test t
+  bounded_in (one_of t) = nat_lt (rows_in t) 256 && bounded_test t

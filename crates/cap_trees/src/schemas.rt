@@ -1,7 +1,7 @@
 ghost use Rattle.std.specs.Prelude.{◌≡◌, IsTrue, true};
 ghost use Rattle.cap_leaf.specs.View.{table_view};
 ghost use Rattle.cap_trees.specs.Tables.{table_of};
-ghost use Rattle.cap_trees.specs.Tests.{Differ, Sound, short_in};
+ghost use Rattle.cap_trees.specs.Tests.{Differ, Sound, bounded_in};
 ghost use Rattle.cap_leaf.specs.Schema.{all};
 ghost use Rattle.cap_leaf.specs.declared.kinds.Kind.{Kind};
 
@@ -374,7 +374,7 @@ pub fn schemas_hold() -> bool
     ensures yes { IsTrue result }
     ensures differ { (k : Kind) → Differ (table_of k) }
     ensures sound { (k : Kind) → Sound (table_of k) }
-    ensures short { (k : Kind) → short_in (all (table_of k)) ≡ true }
+    ensures bounded { (k : Kind) → bounded_in (all (table_of k)) ≡ true }
 {
     true
 }

@@ -1,0 +1,13 @@
+use Rattle.std.proofs.Common.{◌∙◌, sym}
+use Rattle.std.proofs.lemmas.Result.{IfOk-weaker}
+use Rattle.cap_entries.specs.FirstLaws.{legal_exactly}
+use Rattle.cap_entries.proofs.first.first_not_allowed.Goals as goal
+
+pub returns-clause-legal : goal.returns-clause-legal
+returns-clause-legal c =
+    IfOk-weaker c.first_of.result _ _
+    (λ first is. (
+      (λ none. (legal_exactly c.args.entries.now).0 (sym is ∙ none)),
+      (λ legal. is ∙ (legal_exactly c.args.entries.now).1 legal),
+    ))
+    c.first_of.ensures

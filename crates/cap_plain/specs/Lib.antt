@@ -1,0 +1,9 @@
+pub mod Queue
+pub mod KeptSales
+pub mod Agreed
+pub mod KeptLaws
+pub mod Once
+pub mod LegalLaws
+pub mod Bounded
+pub mod Counted
+pub mod SumsLaws

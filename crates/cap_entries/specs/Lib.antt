@@ -25,3 +25,6 @@ pub mod FirstLaws
 pub mod FitsLaws
 pub mod LogSummary
 pub mod LogSummaryLaws
+pub mod HostSummary
+pub mod HostAllowedLaws
+pub mod HostSummaryLaws

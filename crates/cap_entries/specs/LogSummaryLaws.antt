@@ -193,3 +193,14 @@ ties_none =
       cancelled = λ n. ap has_cancel (free_everywhere n);
       closes = refl;
     }
+
+-- where the code writes it
+pub set_end_at : (ends : List SaleEnd) (n : ℕ) (e : SaleEnd) → 1 ≤ n → slice_set (padded ends n) (n - 1) e ≡ set_end ends n e
+set_end_at ends zero e h = absurd (omega (arith, h))
+set_end_at ends (suc n) e h =
+    let a : suc n ≡ n + 1 = omega arith in
+    let b : suc n - 1 ≡ n = omega arith in
+    ap (λ k. slice_set (padded ends k) (suc n - 1) e) a ∙ ap (λ k. slice_set (padded ends (n + 1)) k e) b
+
+pub long_enough : (ends : List SaleEnd) (n : ℕ) → n ≤ length (padded ends n)
+long_enough ends n = length-padded ends n

@@ -5,6 +5,7 @@ mod first;
 mod host;
 mod judge;
 mod lists;
+mod log_judge;
 mod rows;
 mod sale_end;
 mod stage;

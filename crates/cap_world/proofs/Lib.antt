@@ -3,3 +3,7 @@ pub mod Splitting
 pub mod OtherLines
 pub mod Repeats
 pub mod Named
+pub mod Sound
+pub mod Parties
+pub mod HostSound
+pub mod Steps

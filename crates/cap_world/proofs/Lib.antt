@@ -7,3 +7,5 @@ pub mod Sound
 pub mod Parties
 pub mod HostSound
 pub mod Steps
+pub mod Accept
+pub mod Lawful

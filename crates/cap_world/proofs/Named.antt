@@ -210,9 +210,12 @@ distinct_names host rule =
     let idents = (and_parts (is_idents host.terminals) (is_blocks host.blocked) lists).0 in
     (and_parts _ (are_distinct host.terminals) idents).1
 
-pub named_message : (host : HostSettings) (all : List TerminalSettings) (w : World) → SetUpsMatch host all → NamingWorld host all w → (terminal : ℕ) (s : TerminalState) (which : ℕ) (message : Message) → slice_get w.terminals terminal ≡ Some s → slice_get s.sent which ≡ Some message → NamedMessage w.host.settled terminal message
-named_message host all w match n terminal s which message at sent =
-    let setup_is : setup_of w.host.settled ≡ host = ap setup_of n.host_is in
+-- whatever the host may have begins with its set-up
+pub setup_kept : (host : HostSettings) (all : List TerminalSettings) (w : World) → NamingWorld host all w → (more : List HostEntry) → setup_of (w.host.settled ++ more) ≡ host
+setup_kept host all w n more = rw n.host_is refl
+
+pub named_message : (host : HostSettings) (all : List TerminalSettings) (w : World) → SetUpsMatch host all → NamingWorld host all w → (entries : List HostEntry) → setup_of entries ≡ host → (terminal : ℕ) (s : TerminalState) (which : ℕ) (message : Message) → slice_get w.terminals terminal ≡ Some s → slice_get s.sent which ≡ Some message → NamedMessage entries terminal message
+named_message host all w match n entries setup_is terminal s which message at sent =
     let t = n.terminals terminal s at in
     let from = all_at (IsFrom t.settings) s.sent which message sent t.from in
     let to : message.header.to ≡ host.host = from.1 ∙ all_at (λ (x : TerminalSettings). x.host ≡ host.host) all terminal t.settings t.there match.hosts in

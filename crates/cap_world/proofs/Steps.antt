@@ -18,7 +18,7 @@ use Rattle.cap_entries.specs.declared.host.HostEntry.{HostEntry}
 use Rattle.cap_entries.specs.declared.host.HostEntry.TheVariants.{Took}
 use Rattle.cap_entries.specs.Items.{items as items_of}
 use Rattle.cap_entries.specs.Acked.{acked}
-use Rattle.cap_entries.specs.Log.{log}
+use Rattle.cap_entries.specs.Log.{log, setup_of}
 use Rattle.cap_entries.specs.Fronts.{IsPrefixOf, prefix_refl, prefix_trans, prefix_length, prefix_whole}
 use Rattle.cap_entries.specs.ItemsLaws.{items_grow}
 use Rattle.cap_entries.specs.LogLaws.{log-append, log_grow, log_kept}
@@ -30,7 +30,7 @@ use Rattle.cap_plain.specs.Once.{one_end, one_cancel, one_close}
 use Rattle.cap_host.specs.Answer.{Answered, answers, answer_of}
 use Rattle.cap_host.specs.Received.{answer_received, number_of, Replies}
 use Rattle.cap_world.specs.World.{TerminalState, HostState, World, TerminalAction, Event, Acts, Interrupted, Restart, Interrupted_restart, TerminalStep, HostAction, Answers, Answers_foreign, Publishes, HostDoes, HostStep, Happening, At_terminal, At_host, Step, first, SetUpsMatch, Run, May}
-use Rattle.cap_world.proofs.Named.{all_append, all_front, all_kept, all_at, all_weaker, answered_by, delivered_cases, set_cases, NamingWorld, step_naming, started_cases, first_naming, named_message}
+use Rattle.cap_world.proofs.Named.{all_append, all_front, all_kept, all_at, all_weaker, answered_by, delivered_cases, set_cases, NamingWorld, step_naming, started_cases, first_naming, setup_kept, named_message}
 use Rattle.cap_world.proofs.Sound.{AckWithin, ack_more, acked_from_within, AnswerOk, answer_more, SentOk, sent_more, is_taken_up, Sound, restarted, terminal_does_sound}
 use Rattle.cap_world.proofs.HostSound.{ReplyOk, answer_sound, log-took, log-took_other}
 use Rattle.cap_world.proofs.Parties.{received_is, RejectedOnly, foreign_is_rejected, rejection_reply}
@@ -105,11 +105,14 @@ module _ (host : HostSettings) (all : List TerminalSettings) where
   sent_ok w inv terminal s which message at sent =
       all_at (SentOk (items_of s.settled) (length (log w.host.settled terminal))) s.sent which message sent (inv.terminals terminal s at).sent
 
-  pub answered_is : (w : World) → Invariant host all w → (terminal : ℕ) (s : TerminalState) (which : ℕ) (message : Message) → slice_get w.terminals terminal ≡ Some s → slice_get s.sent which ≡ Some message → answer_received w.host.settled (Read message) ≡ answer_of w.host.settled terminal message.header.exchange message.body
-  answered_is w inv terminal s which message at sent =
+  pub answered_is : (w : World) → Invariant host all w → (entries : List HostEntry) → setup_of entries ≡ host → (terminal : ℕ) (s : TerminalState) (which : ℕ) (message : Message) → slice_get w.terminals terminal ≡ Some s → slice_get s.sent which ≡ Some message → answer_received entries (Read message) ≡ answer_of entries terminal message.header.exchange message.body
+  answered_is w inv entries setup_is terminal s which message at sent =
       let ok = sent_ok w inv terminal s which message at sent in
-      received_is w.host.settled message terminal (is_taken_up _ _ message.header.exchange (report_of message.body) ok)
-      (named_message host all w inv.match inv.naming terminal s which message at sent)
+      received_is entries message terminal (is_taken_up _ _ message.header.exchange (report_of message.body) ok)
+      (named_message host all w inv.match inv.naming entries setup_is terminal s which message at sent)
+
+  pub setup_settled : (w : World) → Invariant host all w → setup_of w.host.settled ≡ host
+  setup_settled w inv = ap setup_of (sym (append-nil w.host.settled)) ∙ setup_kept host all w inv.naming []
 
   -- an action that adds to no log
   quiet : (w : World) (added : List HostEntry) (receiver : ℕ) (replies : List Message) → Invariant host all w → ((place : ℕ) → log added place ≡ []) → ((n : ℕ) → AllByRecursion (AnswerOk n) replies) → HostDoesSoundly w added receiver replies
@@ -136,7 +139,7 @@ module _ (host : HostSettings) (all : List TerminalSettings) where
       let sound = inv.terminals terminal s at in
       let own = log w.host.settled terminal in
       let ok = sent_ok w inv terminal s which message at sent in
-      let same_answer = answered_is w inv terminal s which message at sent in
+      let same_answer = answered_is w inv w.host.settled (setup_settled w inv) terminal s which message at sent in
       let answered = answer_sound w.host.settled terminal (items_of s.settled) message (front_settled w inv terminal s at) ok in
       let e : added ≡ map (Took terminal) answered.new = is ∙ (ap (λ (a : Answered). a.added) same_answer ∙ answered.added) in
       let mine : log (w.host.settled ++ added) terminal ≡ own ++ answered.new =

@@ -4,3 +4,7 @@ pub mod Model
 pub mod Report
 pub mod World
 pub mod Agreement
+pub mod Accepted
+pub mod Approved
+pub mod SetsInForce
+pub mod LegalJournals

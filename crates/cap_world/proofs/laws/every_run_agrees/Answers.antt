@@ -1,7 +1,7 @@
 use Rattle.cap_world.specs.Agreement.{EveryRunAgrees}
 use Rattle.cap_world.proofs.laws.every_run_agrees.Goals as goal
-use Rattle.cap_world.proofs.Steps.{every_run_agrees}
+use Rattle.cap_world.proofs.Lawful.{every_advice_is_accepted}
 
 -- src/laws.rt:10:1
 pub returns : goal.returns
-returns c = every_run_agrees
+returns c = ?

@@ -9,3 +9,7 @@ pub mod HostSound
 pub mod Steps
 pub mod Accept
 pub mod Lawful
+pub mod Approve
+pub mod Force
+pub mod ForceRuns
+pub mod LegalRuns

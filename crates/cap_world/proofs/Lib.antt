@@ -13,3 +13,5 @@ pub mod Approve
 pub mod Force
 pub mod ForceRuns
 pub mod LegalRuns
+pub mod Merged
+pub mod MergedBytes

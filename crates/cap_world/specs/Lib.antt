@@ -8,3 +8,5 @@ pub mod Accepted
 pub mod Approved
 pub mod SetsInForce
 pub mod LegalJournals
+pub mod Work
+pub mod Node

@@ -1,7 +1,5 @@
-use Rattle.cap_world.specs.Agreement.{EveryRunAgrees}
 use Rattle.cap_world.proofs.laws.every_run_agrees.Goals as goal
-use Rattle.cap_world.proofs.LegalRuns.{every_host_journal_is_legal}
+use Rattle.cap_world.proofs.Steps.{every_run_agrees}
 
--- src/laws.rt:10:1
 pub returns : goal.returns
-returns c = ?
+returns c = every_run_agrees

@@ -15,3 +15,4 @@ pub mod ForceRuns
 pub mod LegalRuns
 pub mod Merged
 pub mod MergedBytes
+pub mod Worked

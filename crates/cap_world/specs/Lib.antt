@@ -10,3 +10,4 @@ pub mod SetsInForce
 pub mod LegalJournals
 pub mod Work
 pub mod Node
+pub mod Worked

@@ -8,6 +8,7 @@ ghost use Rattle.cap_world.specs.SetsInForce.{EverySetIsPublished, NoSetGoesBack
 ghost use Rattle.cap_world.specs.LegalJournals.{EveryTerminalJournalIsLegal, EveryHostJournalIsLegal};
 ghost use Rattle.cap_world.specs.Work.{MergedWorkIsARun};
 ghost use Rattle.cap_world.specs.Node.{MergedBytesAreARun};
+ghost use Rattle.cap_world.specs.Worked.{FirstSaleIsARun, InterruptedSaleIsARun};
 
 /// Whatever was sold, cancelled, closed, sent, lost, repeated and reordered, and wherever the power went at either end, also within a
 /// write: the host's log of each terminal is a front of that terminal's items, none twice; it has what the terminal had acknowledged;
@@ -61,4 +62,14 @@ pub fn merged_work_is_a_run()
 /// from any world of a run through worlds of a run.
 pub fn merged_bytes_are_a_run()
     ensures { MergedBytesAreARun }
+{}
+
+/// A sale within the floor, its advice and the answer are a run: one item, which is acknowledged, stands in the log and is captured.
+pub fn first_sale_is_a_run()
+    ensures { FirstSaleIsARun }
+{}
+
+/// A sale whose completion is cut within the write, and which is then given up, is a run: one item, and nothing at the host.
+pub fn interrupted_sale_is_a_run()
+    ensures { InterruptedSaleIsARun }
 {}

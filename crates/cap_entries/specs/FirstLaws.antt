@@ -5,6 +5,7 @@ use Rattle.std.proofs.lemmas.Bool.{cond-true, cond-false, cases_Bool, false≢tr
 use Rattle.std.proofs.lemmas.Option.{none-some}
 use Rattle.std.proofs.lemmas.List.{take_more, drop_more}
 use Rattle.cap_entries.specs.AllowedLaws.{all_allowed-append}
+use Rattle.cap_entries.specs.HostAllowedLaws.{all_host_allowed-append}
 use Rattle.cap_entries.specs.declared.terminal.TermEntry.{TermEntry}
 use Rattle.cap_entries.specs.declared.host.HostEntry.{HostEntry}
 use Rattle.cap_entries.specs.Allowed.{allowed, all_allowed, is_legal}
@@ -57,3 +58,21 @@ refused-take entries i d h ok =
 
 pub legal-take : (entries : List TermEntry) (i : ℕ) (d : TermEntry) → i < length entries → allowed (take i entries) (get_or entries i d) ≡ true → all_allowed [] (take i entries) ≡ true → all_allowed [] (take (i + 1) entries) ≡ true
 legal-take entries i d h ok legal = ap (all_allowed []) (take_more entries i d h) ∙ all_allowed-append [] (take i entries) (get_or entries i d ∷ []) legal (and_from _ _ ok refl)
+
+pub host_refused-take : (entries : List HostEntry) (i : ℕ) (d : HostEntry) → i < length entries → host_allowed (take i entries) (get_or entries i d) ≡ true
+    → first_host_refused (take (i + 1) entries) (drop (i + 1) entries) ≡ first_host_refused (take i entries) (drop i entries)
+host_refused-take entries i d h ok =
+    sym (ap (first_host_refused (take i entries)) (drop_more entries i d h)
+    ∙ (cond-true (host_allowed (take i entries) (get_or entries i d)) _ _ ok ∙ ap (λ l. first_host_refused l (drop (i + 1) entries)) (sym (take_more entries i d h))))
+
+pub legal_host-take : (entries : List HostEntry) (i : ℕ) (d : HostEntry) → i < length entries → host_allowed (take i entries) (get_or entries i d) ≡ true → all_host_allowed [] (take i entries) ≡ true → all_host_allowed [] (take (i + 1) entries) ≡ true
+legal_host-take entries i d h ok legal = ap (all_host_allowed []) (take_more entries i d h) ∙ all_host_allowed-append [] (take i entries) (get_or entries i d ∷ []) legal (and_from _ _ ok refl)
+
+-- and all of their entries are allowed
+pub none_all : (entries : List TermEntry) → first_not_allowed entries ≡ None → all_allowed [] entries ≡ true
+none_all [] e = refl
+none_all (entry ∷ entries) e = none_refused [] (entry ∷ entries) e
+
+pub none_all_host : (entries : List HostEntry) → first_host_not_allowed entries ≡ None → all_host_allowed [] entries ≡ true
+none_all_host [] e = refl
+none_all_host (entry ∷ entries) e = none_host_refused [] (entry ∷ entries) e

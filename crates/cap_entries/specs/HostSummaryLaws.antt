@@ -1,14 +1,12 @@
 -- The summary of a host's legal journal tells exactly what is allowed next.
-use Rattle.std.proofs.Common.{◌≡◌, ℕ, zero, suc, ◌+◌, ◌<◌, ◌≤◌, Bool, true, false, cond, not, ◌&&◌, List, [], ◌∷◌, ◌++◌, length, replicate, take, get_or, refl, sym, ◌∙◌, ap, subst, ⊎_elim, arith, eqb-true, eq-eqb, leb-true, ltb-true, length-append, append-nil, append_assoc}
-use Rattle.std.specs.Prelude.{◌==◌, nat_le, nat_lt, slice_set, slice_index_or}
-use Rattle.std.proofs.lemmas.Bool.{cond-true, cond-false, cases_Bool, false≢true, both_ways, and_parts, and_from}
+use Rattle.std.proofs.Common.{◌≡◌, ℕ, zero, suc, ◌+◌, ◌<◌, Bool, true, false, ◌&&◌, List, [], ◌∷◌, ◌++◌, length, replicate, take, get_or, refl, sym, ◌∙◌, ap, subst, ⊎_elim, arith, eqb-true, eq-eqb, ltb-true, append-nil}
+use Rattle.std.specs.Prelude.{◌==◌, nat_le, nat_lt, slice_set}
+use Rattle.std.proofs.lemmas.Bool.{cond-true, cond-false, cases_Bool, false≢true, both_ways, and_parts}
 use Rattle.std.proofs.lemmas.List.{get_or-set_same, get_or-set_other, length-replicate, length-set, take_more}
 use Rattle.std.proofs.lemmas.List.Sums.{fold_push}
-use Rattle.cap_base.specs.declared.parameters.Row.{Row}
 use Rattle.cap_base.specs.declared.item.Item.{Item}
 use Rattle.cap_entries.specs.declared.host.HostEntry.{HostEntry}
 use Rattle.cap_entries.specs.declared.host.HostEntry.TheVariants.{Setup, Took, Published}
-use Rattle.cap_base.specs.Fits.{fits}
 use Rattle.cap_entries.specs.Log.{item_from, log, published, setup_of}
 use Rattle.cap_entries.specs.LogLaws.{log-append}
 use Rattle.cap_entries.specs.HostAllowed.{is_host_setup, host_allowed_after, host_allowed, all_host_allowed}
@@ -42,7 +40,7 @@ no_log_there (suc m) zero = refl
 no_log_there (suc m) (suc i) = no_log_there m i
 
 -- the log of a terminal with one entry more
-log-push : (entries : List HostEntry) (entry : HostEntry) (place : ℕ) → log (entries ++ entry ∷ []) place ≡ log entries place ++ item_from place entry
+pub log-push : (entries : List HostEntry) (entry : HostEntry) (place : ℕ) → log (entries ++ entry ∷ []) place ≡ log entries place ++ item_from place entry
 log-push entries entry place = log-append entries (entry ∷ []) place ∙ ap (λ l. log entries place ++ l) (append-nil (item_from place entry))
 
 -- an entry that is no item of the terminal

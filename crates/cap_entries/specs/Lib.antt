@@ -28,3 +28,5 @@ pub mod LogSummaryLaws
 pub mod HostSummary
 pub mod HostAllowedLaws
 pub mod HostSummaryLaws
+pub mod FloorLaws
+pub mod LogsFit

@@ -1,15 +1,14 @@
 -- The summary of a log whose items fit tells exactly which item fits next.
-use Rattle.std.proofs.Common.{◌≡◌, ℕ, zero, suc, ◌+◌, ◌-◌, ◌<◌, ◌≤◌, Bool, true, false, cond, not, ◌&&◌, ◌||◌, List, [], ◌∷◌, ◌++◌, length, replicate, get_or, refl, sym, ◌∙◌, ap, subst, ⊎_elim, arith, eqb-true, eq-eqb, leb-true, length-append}
-use Rattle.std.specs.Prelude.{◌==◌, nat_le, count_by, filter, slice_set, slice_index_or}
+use Rattle.std.proofs.Common.{◌≡◌, ℕ, zero, suc, ◌+◌, ◌-◌, ◌≤◌, Bool, true, false, cond, not, ◌&&◌, ◌||◌, List, [], ◌∷◌, ◌++◌, length, replicate, get_or, refl, sym, ◌∙◌, ap, subst, ⊎_elim, arith, eqb-true, eq-eqb, leb-true, length-append}
+use Rattle.std.specs.Prelude.{◌==◌, nat_le, count_by, filter, slice_set}
 use Rattle.std.specs.List.{list_any}
 use Rattle.std.proofs.Math.Bool.{or-false}
-use Rattle.std.proofs.lemmas.Bool.{cond-true, cond-false, cases_Bool, false≢true, both_ways, and_parts, and_from, not-true}
+use Rattle.std.proofs.lemmas.Bool.{cond-true, cond-false, cases_Bool, false≢true, both_ways, and_parts, not-true}
 use Rattle.std.proofs.lemmas.List.{get_or-set_same, get_or-set_other, length-replicate}
 use Rattle.std.proofs.lemmas.List.Sums.{fold_push}
 use Rattle.cap_base.specs.declared.item.Item.{Item}
 use Rattle.cap_base.specs.declared.item.Item.TheVariants.{Sale, Void, Cancel, Close}
 use Rattle.cap_base.specs.Item.{is_end, is_cancel, is_any_close, is_sale_where, is_sale_of}
-use Rattle.cap_base.specs.Captured.{captured}
 use Rattle.cap_base.specs.Fits.{is_number, fits}
 use Rattle.cap_entries.specs.declared.sale_end.SaleEnd.{SaleEnd}
 use Rattle.cap_entries.specs.declared.sale_end.SaleEnd.TheVariants.{Free, Voided, Sold, Cancelled}

@@ -1,7 +1,7 @@
 -- The numbers of a summary stay small.
-use Rattle.std.proofs.Common.{◌≡◌, ℕ, ◌+◌, ◌*◌, ◌≤◌, true, not, ◌&&◌, List, [], ◌∷◌, length, Some, refl, sym, ◌∙◌, ap, ⊎_elim, arith, eqb-true, leb-true, length-append}
+use Rattle.std.proofs.Common.{◌≡◌, ℕ, ◌+◌, ◌*◌, ◌≤◌, true, not, ◌&&◌, List, [], ◌∷◌, length, Some, refl, sym, ◌∙◌, ap, subst, ⊎_elim, arith, eqb-true, leb-true, length-append}
 use Rattle.std.specs.Prelude.{◌==◌, nat_le, sum_by, bytes_eq}
-use Rattle.std.proofs.lemmas.Bool.{cond-true, cond-false, cases_Bool, false≢true, and_parts}
+use Rattle.std.proofs.lemmas.Bool.{cond-true, cond-false, cases_Bool, false≢true, and_parts, and_from}
 use Rattle.std.proofs.lemmas.List.Sums.{sum_by-append}
 use Rattle.cap_entries.specs.declared.stage.Stage.{Stage}
 use Rattle.cap_entries.specs.declared.stage.Stage.TheVariants.{Pending, Declined as Stage_declined, Completed as Stage_completed, Voided as Stage_voided, Cancelled as Stage_cancelled}
@@ -10,7 +10,11 @@ use Rattle.cap_entries.specs.declared.terminal.TermEntry.TheVariants.{Setup, Beg
 use Rattle.cap_entries.specs.Entry.{is_setup}
 use Rattle.cap_entries.specs.Stage.{stage_of, set_stage, items_made}
 use Rattle.cap_entries.specs.StageLaws.{length-set_stage, items-set_stage, ends_pending, cancels_completed}
-use Rattle.cap_entries.specs.Summary.{Summary, summary_after, follows, may_follow, IsSummary}
+use Rattle.cap_entries.specs.Items.{items}
+use Rattle.cap_entries.specs.Allowed.{all_allowed}
+use Rattle.cap_entries.specs.AllowedLaws.{all_allowed-append, along}
+use Rattle.cap_entries.specs.SummaryLaws.{summarises, summary-push, may_follow_is}
+use Rattle.cap_entries.specs.Summary.{Summary, no_summary, summary, summary_after, follows, may_follow, IsSummary}
 
 two_at_most : (stage : Stage) → items_made stage ≤ 2
 two_at_most Pending = omega arith
@@ -81,3 +85,19 @@ summary_kept s entry i ok =
 -- the same where the summary and the entry go by other names
 pub kept_at : (s now : Summary) (entry given : TermEntry) → s ≡ now → given ≡ entry → IsSummary s → may_follow now given ≡ true → IsSummary (summary_after s entry)
 kept_at s now entry given same is i ok = summary_kept s entry i (ap (λ v. may_follow v entry) same ∙ (ap (may_follow now) (sym is) ∙ ok))
+
+none_kept : IsSummary no_summary
+none_kept = record { max = omega arith; sales = omega arith; closes = omega arith; items = refl }
+
+kept_along : (entries : List TermEntry) → all_allowed [] entries ≡ true → IsSummary (summary entries)
+kept_along entries ok =
+    (along (λ e. (all_allowed [] e ≡ true) × IsSummary (summary e))
+    (λ before entry k fine. (
+      all_allowed-append [] before (entry ∷ []) k.0 (and_from _ _ fine refl),
+      subst IsSummary (sym (summary-push before entry)) (summary_kept (summary before) entry k.1 (may_follow_is before entry k.0 ∙ fine)),
+    ))
+    [] entries (refl, none_kept) ok).1
+
+-- a legal journal makes at most 750,000 items
+pub items_few : (entries : List TermEntry) → all_allowed [] entries ≡ true → length (items entries) ≤ 750000
+items_few entries ok = omega (arith, few_items (summary entries) (kept_along entries ok), (summarises entries ok).counts.items)

@@ -2,7 +2,9 @@
 #![tactic(auto)]
 
 mod first;
+mod floor;
 mod host;
+mod host_judge;
 mod judge;
 mod lists;
 mod log_judge;
@@ -10,9 +12,13 @@ mod rows;
 mod sale_end;
 mod stage;
 mod terminal;
+#[cfg(test)]
+mod tests;
 
-pub use first::first_not_allowed;
+pub use first::{first_host_not_allowed, first_not_allowed};
+pub use floor::floor_row;
 pub use host::{HostEntry, HostSetup};
+pub use host_judge::HostJudge;
 pub use judge::TermJudge;
 pub use lists::{Blocks, Idents};
 pub use rows::{RowFault, RowSet};

@@ -8,11 +8,7 @@ pub enum SaleEnd {
     /// A Void has it.
     Voided,
     /// A Sale of this amount has it, and no Cancel.
-    Sold {
-        amount: Amount,
-    },
+    Sold { amount: Amount },
     /// A Sale of this amount has it, and a Cancel.
-    Cancelled {
-        amount: Amount,
-    },
+    Cancelled { amount: Amount },
 }

@@ -1,4 +1,4 @@
--- In a log whose items fit one after another there are at most 250,001 Sales and as many Cancels.
+-- In a log whose items fit one after another there are at most 250,000 Sales and as many Cancels.
 use Rattle.std.proofs.Common.{◌≡◌, ℕ, ◌-◌, ◌≤◌, Bool, true, false, nat_eq, List, [], ◌∷◌, ◌++◌, length, refl, sym, ◌∙◌, ap, arith, length-append, append-nil, ◌||◌, ◌⊎◌, inl, inr, ⊎_elim, not, ◌&&◌, leb-true, eqb-true, eq-eqb, subst}
 use Rattle.std.specs.Prelude.{filter, sum_by, ◌==◌, nat_le}
 use Rattle.std.specs.List.{list_any, flat_map, IsDistinct}
@@ -75,10 +75,10 @@ sale_ends test k a (Close p totals ∷ xs) e = sale_ends test k a xs e
 pub record Counted (log : List Item) : Type 0 where
   pub sales : IsDistinct nat_eq (flat_map sale_number log)
   pub sold : (n : ℕ) → list_any (nat_eq n) (flat_map sale_number log) ≡ true → list_any (is_end n) log ≡ true
-  pub within : (n : ℕ) → list_any (is_end n) log ≡ true → n ≤ 250000
+  pub within : (n : ℕ) → list_any (is_end n) log ≡ true → (1 ≤ n) × (n ≤ 250000)
   pub cancels : IsDistinct nat_eq (flat_map cancel_number log)
   pub cancelled : (n : ℕ) → list_any (nat_eq n) (flat_map cancel_number log) ≡ true → list_any (is_cancel n) log ≡ true
-  pub cancels_within : (n : ℕ) → list_any (is_cancel n) log ≡ true → n ≤ 250000
+  pub cancels_within : (n : ℕ) → list_any (is_cancel n) log ≡ true → (1 ≤ n) × (n ≤ 250000)
 
 found : (test : Item → Bool) (log : List Item) (item : Item) → list_any test (log ++ item ∷ []) ≡ true → (list_any test log ≡ true) ⊎ (test item ≡ true)
 found test log item t = ⊎_elim (λ h. inl h) (λ h. inr (rw or-false at h)) (or_cases _ _ (sym (list_any-append test log (item ∷ [])) ∙ t))
@@ -112,20 +112,22 @@ cancels-push log (Cancel n amount) h fit =
     (false_from_ne_true _ (λ t. both_ways _ (cancel_new n log (Cancel n amount) fit (eq-eqb n n refl)) (h.cancelled n t)))
 cancels-push log (Close p totals) h fit = rw (append-nil (flat_map cancel_number log)) h.cancels
 
-number_within : (k n : ℕ) → is_number k ≡ true → (k == n) ≡ true → n ≤ 250000
-number_within k n ok t = subst (λ j. j ≤ 250000) (eqb-true k n t) (leb-true k 250000 (and_parts (nat_le 1 k) (nat_le k 250000) ok).1)
+number_within : (k n : ℕ) → is_number k ≡ true → (k == n) ≡ true → (1 ≤ n) × (n ≤ 250000)
+number_within k n ok t =
+    let parts = and_parts (nat_le 1 k) (nat_le k 250000) ok in
+    subst (λ j. (1 ≤ j) × (j ≤ 250000)) (eqb-true k n t) (leb-true 1 k parts.0, leb-true k 250000 parts.1)
 
-end_within : (log : List Item) (item : Item) (n : ℕ) → fits log item ≡ true → is_end n item ≡ true → n ≤ 250000
+end_within : (log : List Item) (item : Item) (n : ℕ) → fits log item ≡ true → is_end n item ≡ true → (1 ≤ n) × (n ≤ 250000)
 end_within log (Sale k amount account code) n fit t = number_within k n (and_parts (is_number k) (not (list_any (is_end k) log)) fit).0 t
 end_within log (Void k) n fit t = number_within k n (and_parts (is_number k) (not (list_any (is_end k) log)) fit).0 t
 end_within log (Cancel k amount) n fit t = absurd (false≢true t)
 end_within log (Close p totals) n fit t = absurd (false≢true t)
 
-cancel_within : (log : List Item) (item : Item) (n : ℕ) → Counted log → fits log item ≡ true → is_cancel n item ≡ true → n ≤ 250000
+cancel_within : (log : List Item) (item : Item) (n : ℕ) → Counted log → fits log item ≡ true → is_cancel n item ≡ true → (1 ≤ n) × (n ≤ 250000)
 cancel_within log (Sale k amount account code) n h fit t = absurd (false≢true t)
 cancel_within log (Void k) n h fit t = absurd (false≢true t)
 cancel_within log (Cancel k amount) n h fit t =
-    subst (λ j. j ≤ 250000) (eqb-true k n t) (h.within k (sale_ends (λ j. not (list_any (is_cancel j) log)) k amount log fit))
+    subst (λ j. (1 ≤ j) × (j ≤ 250000)) (eqb-true k n t) (h.within k (sale_ends (λ j. not (list_any (is_cancel j) log)) k amount log fit))
 cancel_within log (Close p totals) n h fit t = absurd (false≢true t)
 
 counted_step : (log : List Item) (item : Item) → Counted log → fits log item ≡ true → Counted (log ++ item ∷ [])
@@ -163,17 +165,26 @@ sum_of_numbers count f one [] = refl
 sum_of_numbers count f one (item ∷ log) =
     omega (arith, one item, sum_by-append count (item ∷ []) log, length-append (f item) (flat_map f log), sum_of_numbers count f one log)
 
-pub few_sales : (log : List Item) → all_fit [] log ≡ true → sum_by sale_count log ≤ 250001
+-- distinct numbers of 1 to 250,000
+few_numbers : (numbers : List ℕ) → IsDistinct nat_eq numbers → ((n : ℕ) → list_any (nat_eq n) numbers ≡ true → (1 ≤ n) × (n ≤ 250000)) → length numbers ≤ 250000
+few_numbers numbers distinct within =
+    let none : list_any (nat_eq 0) numbers ≡ false = false_from_ne_true _ (λ t. absurd (omega (arith, (within 0 t).0))) in
+    let more = length-le_from_distinct_below (numbers ++ 0 ∷ []) 250001 (IsDistinct-push nat_eq_equiv numbers 0 distinct none) (λ q t.
+    ⊎_elim
+    (λ before. omega (arith, (within q before).1))
+    (λ last. omega (arith, eqb-true q 0 (rw or-false at last)))
+    (or_cases (list_any (nat_eq q) numbers) (nat_eq q 0 || false) (sym (list_any-append (nat_eq q) numbers (0 ∷ [])) ∙ t))) in
+    omega (arith, more, length-append numbers (0 ∷ []))
+
+pub few_sales : (log : List Item) → all_fit [] log ≡ true → sum_by sale_count log ≤ 250000
 few_sales log fit =
     let h = counted log fit in
-    rw (sum_of_numbers sale_count sale_number one_sale log)
-    (length-le_from_distinct_below (flat_map sale_number log) 250001 h.sales (λ q t. let within : q ≤ 250000 = h.within q (h.sold q t) in omega arith))
+    rw (sum_of_numbers sale_count sale_number one_sale log) (few_numbers (flat_map sale_number log) h.sales (λ n t. h.within n (h.sold n t)))
 
-pub few_cancels : (log : List Item) → all_fit [] log ≡ true → sum_by cancel_count log ≤ 250001
+pub few_cancels : (log : List Item) → all_fit [] log ≡ true → sum_by cancel_count log ≤ 250000
 few_cancels log fit =
     let h = counted log fit in
-    rw (sum_of_numbers cancel_count cancel_number one_cancel log)
-    (length-le_from_distinct_below (flat_map cancel_number log) 250001 h.cancels (λ q t. let within : q ≤ 250000 = h.cancels_within q (h.cancelled q t) in omega arith))
+    rw (sum_of_numbers cancel_count cancel_number one_cancel log) (few_numbers (flat_map cancel_number log) h.cancels (λ n t. h.cancels_within n (h.cancelled n t)))
 
 -- a period has no more of anything than the log
 sum_before : (f : Item → ℕ) (p : ℕ) (log : List Item) → sum_by f (before_close p log) ≤ sum_by f log

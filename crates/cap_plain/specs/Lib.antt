@@ -7,3 +7,4 @@ pub mod LegalLaws
 pub mod Bounded
 pub mod Counted
 pub mod SumsLaws
+pub mod AgreedLaws

@@ -56,8 +56,7 @@ fn next_item(before: &[TermEntry], made: &[Item], entry: &TermEntry) -> Option<I
     }
 }
 
-/// The items that the entries make, where each entry is allowed after those before it.
-pub fn items_of(alloc: Global, entries: &[TermEntry]) -> Result<Vec<Item>, Memory>
+fn make_items(alloc: Global, entries: &[TermEntry]) -> Result<Vec<Item>, Memory>
     requires { all_allowed [] entries.now ≡ true }
     ensures { IfOk result (λ v. v.items ≡ items entries.now) }
 {
@@ -68,4 +67,13 @@ pub fn items_of(alloc: Global, entries: &[TermEntry]) -> Result<Vec<Item>, Memor
         }
     }
     Ok(made)
+}
+
+/// The items that the entries make, where each entry is allowed after those before it. They fit one after another.
+pub fn items_of(alloc: Global, entries: &[TermEntry]) -> Result<Vec<Item>, Memory>
+    requires { all_allowed [] entries.now ≡ true }
+    ensures exact { IfOk result (λ v. v.items ≡ items entries.now) }
+    ensures fit { IfOk result (λ v. all_fit [] v.items ≡ true) }
+{
+    make_items(alloc, entries)
 }

@@ -58,8 +58,8 @@ fn in_period(items: &[Item], p: u64) -> &[Item]
 // The totals with one item more.
 fn with_item(so_far: Totals, item: &Item) -> Totals
     requires bounded { IsBounded so_far }
-    requires sales { so_far.sales ≤ 250001 }
-    requires cancels { so_far.cancels ≤ 250001 }
+    requires sales { so_far.sales ≤ 250000 }
+    requires cancels { so_far.cancels ≤ 250000 }
     ensures value { result ≡ sums_with so_far item.now }
     ensures bounded { IsBounded result }
 {
@@ -79,8 +79,8 @@ fn with_item(so_far: Totals, item: &Item) -> Totals
 }
 
 fn sums(items: &[Item]) -> Totals
-    requires sales { sum_by sale_count items.now ≤ 250001 }
-    requires cancels { sum_by cancel_count items.now ≤ 250001 }
+    requires sales { sum_by sale_count items.now ≤ 250000 }
+    requires cancels { sum_by cancel_count items.now ≤ 250000 }
     ensures { result ≡ sums_of items.now }
 {
     let mut so_far = Totals {

@@ -1,6 +1,6 @@
 use Rattle.std.proofs.Common.{◌∙◌, sym}
 use Rattle.std.proofs.lemmas.Result.{IfOk-weaker}
-use Rattle.cap_entries.specs.FirstLaws.{legal_exactly}
+use Rattle.cap_entries.specs.FirstLaws.{none_all, legal_exactly}
 use Rattle.cap_entries.proofs.first.first_not_allowed.Goals as goal
 
 pub returns-clause-legal : goal.returns-clause-legal
@@ -11,3 +11,6 @@ returns-clause-legal c =
       (λ legal. is ∙ (legal_exactly c.args.entries.now).1 legal),
     ))
     c.first_of.ensures
+
+pub returns-clause-allowed : goal.returns-clause-allowed
+returns-clause-allowed c = IfOk-weaker c.first_of.result _ _ (λ first is none. none_all c.args.entries.now (sym is ∙ none)) c.first_of.ensures

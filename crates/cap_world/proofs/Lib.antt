@@ -2,3 +2,17 @@ pub mod Deliveries
 pub mod Splitting
 pub mod OtherLines
 pub mod Repeats
+pub mod Named
+pub mod Sound
+pub mod Parties
+pub mod HostSound
+pub mod Steps
+pub mod Accept
+pub mod Lawful
+pub mod Approve
+pub mod Force
+pub mod ForceRuns
+pub mod LegalRuns
+pub mod Merged
+pub mod MergedBytes
+pub mod Worked

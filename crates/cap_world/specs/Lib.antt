@@ -2,3 +2,12 @@ pub mod Blocks
 pub mod Language
 pub mod Model
 pub mod Report
+pub mod World
+pub mod Agreement
+pub mod Accepted
+pub mod Approved
+pub mod SetsInForce
+pub mod LegalJournals
+pub mod Work
+pub mod Node
+pub mod Worked

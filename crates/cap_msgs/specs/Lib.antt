@@ -1,0 +1,4 @@
+pub mod Received
+pub mod Moment
+pub mod Report
+pub mod Reply

@@ -1,0 +1,145 @@
+-- Journals are legal in every world.
+use Rattle.std.proofs.Common.{◌≡◌, ℕ, zero, suc, ◌+◌, ◌<◌, Bool, true, List, [], ◌∷◌, ◌++◌, length, take, drop, Some, sym, ◌∙◌, ap, subst, append_assoc, append-nil, take-append-drop, arith, false, map, set, None, refl, ◌-◌, eq-eqb, le-leb, lt-ltb, length-set}
+use Rattle.std.proofs.lemmas.Bool.{and_parts, and_from}
+use Rattle.std.proofs.lemmas.List.{length-map}
+use Rattle.std.proofs.lemmas.Option.{slice_get_within}
+use Rattle.cap_base.specs.declared.item.Item.{Item}
+use Rattle.cap_base.specs.Fits.{fits, all_fit}
+use Rattle.cap_msgs.specs.declared.message.Message.{Message}
+use Rattle.cap_entries.specs.Settings.{TerminalSettings, HostSettings}
+use Rattle.cap_entries.specs.declared.terminal.TermEntry.{TermEntry}
+use Rattle.cap_entries.specs.declared.host.HostEntry.{HostEntry}
+use Rattle.cap_entries.specs.declared.host.HostEntry.TheVariants.{Setup as Host_setup, Took, Published}
+use Rattle.cap_entries.specs.Items.{items as items_of}
+use Rattle.cap_entries.specs.Allowed.{all_allowed, is_legal}
+use Rattle.cap_entries.specs.Log.{log, published, setup_of}
+use Rattle.cap_entries.specs.HostAllowed.{host_allowed_after, host_allowed, all_host_allowed, is_legal_host}
+use Rattle.cap_entries.specs.LogLaws.{log-append}
+use Rattle.cap_entries.specs.AllowedLaws.{all_allowed_front}
+use Rattle.cap_entries.specs.HostAllowedLaws.{all_host_allowed-append, all_host_allowed_front}
+use Rattle.cap_host.specs.Answer.{Answered}
+use Rattle.cap_world.specs.World.{TerminalState, World, Event, Acts, Interrupted, Restart, Interrupted_restart, HostAction, Answers, Answers_foreign, Publishes, HostDoes, delivered, HostStep, Happening, At_terminal, At_host, Step, started, first, Run}
+use Rattle.cap_world.proofs.HostSound.{answer_sound, log-took}
+use Rattle.cap_world.proofs.Parties.{foreign_is_rejected}
+use Rattle.cap_world.proofs.Steps.{Invariant, step_sound, first_sound, sent_ok, answered_is, setup_settled, front_settled}
+use Rattle.cap_world.proofs.Lawful.{SetUp, setup_more, lawful_run}
+use Rattle.cap_world.specs.LegalJournals.{EveryTerminalJournalIsLegal, EveryHostJournalIsLegal}
+
+-- a host's journal that begins with its set-up
+record HostSetUpFirst (entries : List HostEntry) (count : ℕ) : Type 0 where
+  setup : HostSettings
+  rest : List HostEntry
+  is : entries ≡ Host_setup setup ∷ rest
+  terminals : length setup.terminals ≡ count
+
+setup_first_more : (entries more : List HostEntry) (count : ℕ) → HostSetUpFirst entries count → HostSetUpFirst (entries ++ more) count
+setup_first_more entries more count u = record { setup = u.setup; rest = u.rest ++ more; is = ap (λ l. l ++ more) u.is; terminals = u.terminals }
+
+host_allowed_from : (entries : List HostEntry) (count : ℕ) (entry : HostEntry) → HostSetUpFirst entries count → host_allowed_after entries entry ≡ true → host_allowed entries entry ≡ true
+host_allowed_from entries count entry u e =
+    let P : List HostEntry → Type 0 = λ l. host_allowed_after l entry ≡ true → host_allowed l entry ≡ true in
+    subst P (sym u.is) (λ h. h) e
+
+setup_count : (entries : List HostEntry) (count : ℕ) → HostSetUpFirst entries count → length (setup_of entries).terminals ≡ count
+setup_count entries count u = ap (λ l. length (setup_of l).terminals) u.is ∙ u.terminals
+
+-- items that fit one after another may be taken one after another
+took_allowed : (entries : List HostEntry) (count place : ℕ) (items : List Item) → HostSetUpFirst entries count → place < count → all_fit (log entries place) items ≡ true → all_host_allowed entries (map (Took place) items) ≡ true
+took_allowed entries count place [] u lt fit = refl
+took_allowed entries count place (item ∷ items) u lt fit =
+    let parts = and_parts (fits (log entries place) item) (all_fit (log entries place ++ item ∷ []) items) fit in
+    let within : place < length (setup_of entries).terminals = omega (arith, setup_count entries count u) in
+    let next : log (entries ++ Took place item ∷ []) place ≡ log entries place ++ item ∷ [] =
+    log-append entries (Took place item ∷ []) place ∙ ap (λ l. log entries place ++ l) (log-took place (item ∷ [])) in
+    and_from _ _ (host_allowed_from entries count (Took place item) u (and_from _ _ (lt-ltb place (length (setup_of entries).terminals) within) parts.0))
+    (took_allowed (entries ++ Took place item ∷ []) count place items (setup_first_more entries (Took place item ∷ []) count u) lt
+    (subst (λ l. all_fit l items ≡ true) (sym next) parts.1))
+
+length-delivered : (terminals : List TerminalState) (receiver : ℕ) (messages : List Message) → length (delivered terminals receiver messages) ≡ length terminals
+length-delivered [] receiver messages = refl
+length-delivered (s ∷ terminals) zero messages = refl
+length-delivered (s ∷ terminals) (suc receiver) messages = ap suc (length-delivered terminals receiver messages)
+
+record HostLawful (host : HostSettings) (all : List TerminalSettings) (w : World) : Type 0 where
+  inv : Invariant host all w
+  legal : all_host_allowed [] (w.host.settled ++ w.host.tried) ≡ true
+  setup : HostSetUpFirst w.host.settled (length w.terminals)
+
+host_does_legal : (host : HostSettings) (all : List TerminalSettings) (w : World) → HostLawful host all w → (action : HostAction) (added : List HostEntry) (receiver : ℕ) (replies : List Message) → HostDoes w action added receiver replies → all_host_allowed w.host.settled added ≡ true
+host_does_legal host all w l (Answers terminal which moment) added receiver replies (s, message, at, sent, is, to, back) =
+    let ok = sent_ok host all w l.inv terminal s which message at sent in
+    let answered = answer_sound w.host.settled terminal (items_of s.settled) message (front_settled host all w l.inv terminal s at) ok in
+    let same = answered_is host all w l.inv w.host.settled (setup_settled host all w l.inv) terminal s which message at sent in
+    let e : added ≡ map (Took terminal) answered.new = is ∙ (ap (λ (a : Answered). a.added) same ∙ answered.added) in
+    rw e (took_allowed w.host.settled (length w.terminals) terminal answered.new l.setup (slice_get_within w.terminals terminal s at) answered.fit)
+host_does_legal host all w l (Answers_foreign received moment) added receiver replies (foreign, is, to, back) =
+    let none : added ≡ [] = is ∙ (foreign_is_rejected w.host.settled received foreign).added in
+    rw none refl
+host_does_legal host all w l (Publishes rows) added receiver replies (lt, is, none) =
+    let n = length (published w.host.settled) in
+    rw is (and_from _ _ (host_allowed_from w.host.settled (length w.terminals) (Published (n + 1) rows) l.setup (and_from _ _ (eq-eqb (n + 1) (n + 1) refl) (le-leb (n + 1) 10000 (omega (arith, lt))))) refl)
+
+-- a world with these settled and tried entries of the host, and as many terminals
+host_world : (host : HostSettings) (all : List TerminalSettings) (w : World) (settled more tried : List HostEntry) (on : Bool) (terminals : List TerminalState) → HostLawful host all w → settled ≡ w.host.settled ++ more → length terminals ≡ length w.terminals → all_host_allowed [] (settled ++ tried) ≡ true → Invariant host all (record { host = record { settled = settled; tried = tried; on = on }; terminals = terminals }) → HostLawful host all (record { host = record { settled = settled; tried = tried; on = on }; terminals = terminals })
+host_world host all w settled more tried on terminals l is len legal inv =
+    record { inv = inv; legal = legal; setup = rw (is, len) (setup_first_more w.host.settled more (length w.terminals) l.setup) }
+
+host_step_lawful : (host : HostSettings) (all : List TerminalSettings) (w new : World) (event : Event HostAction) → HostLawful host all w → HostStep w event new → HostLawful host all new
+host_step_lawful host all w new (Acts action) l (added, receiver, replies, on, does, is) =
+    let inv = step_sound host all w new (At_host (Acts action)) l.inv (added, receiver, replies, on, does, is) in
+    let front = all_host_allowed_front [] w.host.settled w.host.tried l.legal in
+    subst (HostLawful host all) (sym is) (host_world host all w _ added [] true _ l refl (length-delivered w.terminals receiver replies)
+    (rw append-nil (all_host_allowed-append [] w.host.settled added front (host_does_legal host all w l action added receiver replies does))) (subst (Invariant host all) is inv))
+host_step_lawful host all w new (Interrupted action) l (added, receiver, replies, on, does, is) =
+    let inv = step_sound host all w new (At_host (Interrupted action)) l.inv (added, receiver, replies, on, does, is) in
+    let front = all_host_allowed_front [] w.host.settled w.host.tried l.legal in
+    subst (HostLawful host all) (sym is) (host_world host all w _ [] added false _ l (sym (append-nil _)) refl
+    (all_host_allowed-append [] w.host.settled added front (host_does_legal host all w l action added receiver replies does)) (subst (Invariant host all) is inv))
+host_step_lawful host all w new (Restart kept) l is =
+    let inv = step_sound host all w new (At_host (Restart kept)) l.inv is in
+    let whole : all_host_allowed [] ((w.host.settled ++ take kept w.host.tried) ++ drop kept w.host.tried) ≡ true = rw (append_assoc, take-append-drop) l.legal in
+    subst (HostLawful host all) (sym is) (host_world host all w _ (take kept w.host.tried) [] true _ l refl refl
+    (rw append-nil (all_host_allowed_front [] (w.host.settled ++ take kept w.host.tried) (drop kept w.host.tried) whole)) (subst (Invariant host all) is inv))
+host_step_lawful host all w new (Interrupted_restart (Some kept)) l is =
+    let inv = step_sound host all w new (At_host (Interrupted_restart (Some kept))) l.inv is in
+    let whole : all_host_allowed [] ((w.host.settled ++ take kept w.host.tried) ++ drop kept w.host.tried) ≡ true = rw (append_assoc, take-append-drop) l.legal in
+    subst (HostLawful host all) (sym is) (host_world host all w _ (take kept w.host.tried) [] false _ l refl refl
+    (rw append-nil (all_host_allowed_front [] (w.host.settled ++ take kept w.host.tried) (drop kept w.host.tried) whole)) (subst (Invariant host all) is inv))
+host_step_lawful host all w new (Interrupted_restart None) l is =
+    let inv = step_sound host all w new (At_host (Interrupted_restart None)) l.inv is in
+    subst (HostLawful host all) (sym is) (host_world host all w _ [] w.host.tried false _ l (sym (append-nil _)) refl l.legal (subst (Invariant host all) is inv))
+
+step_host_lawful : (host : HostSettings) (all : List TerminalSettings) (w new : World) (happening : Happening) → HostLawful host all w → Step w happening new → HostLawful host all new
+step_host_lawful host all w new (At_host event) l step = host_step_lawful host all w new event l step
+step_host_lawful host all w new (At_terminal place event) l (before, after, at, step, is) =
+    let inv = step_sound host all w new (At_terminal place event) l.inv (before, after, at, step, is) in
+    let same : length (set w.terminals place after) ≡ length w.terminals = length-set w.terminals place after in
+    subst (HostLawful host all) (sym is) (record { inv = subst (Invariant host all) is inv; legal = l.legal; setup = rw same l.setup })
+
+run_host_lawful : (host : HostSettings) (all : List TerminalSettings) (w new : World) (happenings : List Happening) → HostLawful host all w → Run w happenings new → HostLawful host all new
+run_host_lawful host all w new [] l is = subst (HostLawful host all) (sym is) l
+run_host_lawful host all w new (happening ∷ happenings) l (next, step, run) = run_host_lawful host all next new happenings (step_host_lawful host all w next happening l step) run
+
+host_legal_from : (entries : List HostEntry) (count : ℕ) → HostSetUpFirst entries count → all_host_allowed [] entries ≡ true → is_legal_host entries ≡ true
+host_legal_from entries count u e =
+    let P : List HostEntry → Type 0 = λ l. all_host_allowed [] l ≡ true → is_legal_host l ≡ true in
+    subst P (sym u.is) (λ h. h) e
+
+pub every_host_journal_is_legal : EveryHostJournalIsLegal
+every_host_journal_is_legal host all happenings w match run others (held, are) =
+    let count : length host.terminals ≡ length (map started all) = ap length match.names ∙ (length-map all _ ∙ sym (length-map all started)) in
+    let l = run_host_lawful host all (first host all) w happenings (record { inv = first_sound host all match; legal = and_from _ _ match.host_rule refl; setup = record { setup = host; rest = []; is = refl; terminals = count } }) run in
+    let whole : all_host_allowed [] ((w.host.settled ++ take held w.host.tried) ++ drop held w.host.tried) ≡ true = rw (append_assoc, take-append-drop) l.legal in
+    rw are (host_legal_from (w.host.settled ++ take held w.host.tried) (length w.terminals) (setup_first_more w.host.settled (take held w.host.tried) (length w.terminals) l.setup)
+    (all_host_allowed_front [] (w.host.settled ++ take held w.host.tried) (drop held w.host.tried) whole))
+
+legal_from : (entries : List TermEntry) → SetUp entries → all_allowed [] entries ≡ true → is_legal entries ≡ true
+legal_from entries u e =
+    let P : List TermEntry → Type 0 = λ l. all_allowed [] l ≡ true → is_legal l ≡ true in
+    subst P (sym u.is) (λ h. h) e
+
+pub every_terminal_journal_is_legal : EveryTerminalJournalIsLegal
+every_terminal_journal_is_legal host setups happenings w match run place s at entries (kept, is) =
+    let l = (lawful_run host setups happenings w match run).terminals place s at in
+    let whole : all_allowed [] ((s.settled ++ take kept s.tried) ++ drop kept s.tried) ≡ true = rw (append_assoc, take-append-drop) l.legal in
+    rw is (legal_from (s.settled ++ take kept s.tried) (setup_more s.settled (take kept s.tried) l.setup) (all_allowed_front [] (s.settled ++ take kept s.tried) (drop kept s.tried) whole))

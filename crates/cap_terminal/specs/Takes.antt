@@ -1,10 +1,8 @@
 -- What a terminal makes of whatever arrives: the entries that it adds, and its answer.
-use Rattle.std.specs.Prelude.{◌≡◌, ◌⊎◌, ℕ, ◌+◌, Bool, true, false, ◌&&◌, not, nat_le, nat_lt, ◌==◌, if◌then◌else◌, List, [], ◌∷◌, length, Option, Some, None, Result, Ok, Err, slice_get, bytes_eq}
-use Rattle.cap_base.specs.declared.item.Totals.{Totals}
+use Rattle.std.specs.Prelude.{◌≡◌, ℕ, ◌+◌, Bool, true, false, ◌&&◌, not, nat_le, nat_lt, ◌==◌, if◌then◌else◌, List, [], ◌∷◌, length, Option, Some, Result, Ok, Err, slice_get, bytes_eq}
 use Rattle.cap_base.specs.declared.parameters.ConfigPart.{ConfigPart}
 use Rattle.cap_base.specs.declared.item.Item.{Item}
 use Rattle.cap_base.specs.declared.item.Item.TheVariants.{Sale, Void, Cancel, Close}
-use Rattle.cap_msgs.specs.declared.message.Body.{Body}
 use Rattle.cap_msgs.specs.declared.message.Message.{Message}
 use Rattle.cap_msgs.specs.Received.{Received, Read, Unread}
 use Rattle.cap_msgs.specs.Reply.{Reply, Rejects, Decides_sale, Decides_cancel, Tells_state, Gives_plan, Gives_part, Acknowledges, From_terminal, reply_of, Acknowledgement, Of_end, Of_cancel, Of_close, Of_items, acknowledges, agrees, named_item}
@@ -14,7 +12,6 @@ use Rattle.cap_entries.specs.Entry.{term_setup_of}
 use Rattle.cap_entries.specs.Items.{items}
 use Rattle.cap_entries.specs.Acked.{acked}
 use Rattle.cap_entries.specs.Allowed.{part_allowed}
-use Rattle.cap_terminal.specs.declared.handled.AuthResponse.{AuthResponse}
 use Rattle.cap_terminal.specs.declared.handled.Handled.{Handled}
 use Rattle.cap_terminal.specs.declared.handled.Handled.TheVariants.{Authorisation, CancelAnswer, Diagnosed, Plan, Part as Part_handled, Acked as Acked_handled, Reconciled}
 use Rattle.cap_terminal.specs.declared.handled.TermFault.{TermFault}

@@ -7,3 +7,6 @@ mod taken;
 
 pub use handled::{AuthResponse, Handled, TermFault};
 pub use taken::{Taking, take_fault, take_message};
+
+#[cfg(test)]
+mod tests;

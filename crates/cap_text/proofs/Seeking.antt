@@ -20,13 +20,13 @@ at_row ns i d lt = ap table_view (drop_more ns i d lt) ∙ node_is (get_or ns i 
 
 seeks : (ns : List Node) (i : ℕ) (d : Node) (n : ℕ) (tag : List ℕ) → i < length ns → seek (table_view (drop i ns)) i n tag
     ≡ cond (bytes_eq (get_or ns i d).tag.now tag)
-        (cond (nat_lt n (get_or ns i d).most) (Some (row_found ns (get_or ns i d) i (suc n))) None)
-        (cond (nat_lt n (get_or ns i d).least) None (seek (table_view (drop (i + 1) ns)) (suc i) 0 tag))
+    (cond (nat_lt n (get_or ns i d).most) (Some (row_found ns (get_or ns i d) i (suc n))) None)
+    (cond (nat_lt n (get_or ns i d).least) None (seek (table_view (drop (i + 1) ns)) (suc i) 0 tag))
 seeks ns i d n tag lt =
     ap (λ t. seek t i n tag) (at_row ns i d lt)
     ∙ ap (λ t. cond (bytes_eq (get_or ns i d).tag.now tag)
-        (cond (nat_lt n (get_or ns i d).most) (Some record { left = rows t i (suc n); at = i; content = content_view (get_or ns i d).shape }) None)
-        (cond (nat_lt n (get_or ns i d).least) None (seek (table_view (drop (i + 1) ns)) (suc i) 0 tag))) (sym (at_row ns i d lt))
+    (cond (nat_lt n (get_or ns i d).most) (Some record { left = rows t i (suc n); at = i; content = content_view (get_or ns i d).shape }) None)
+    (cond (nat_lt n (get_or ns i d).least) None (seek (table_view (drop (i + 1) ns)) (suc i) 0 tag))) (sym (at_row ns i d lt))
 
 pub seeks_found : (ns : List Node) (i : ℕ) (d : Node) (n : ℕ) (tag : List ℕ) → i < length ns → bytes_eq (get_or ns i d).tag.now tag ≡ true → n < (get_or ns i d).most
     → seek (table_view (drop i ns)) i n tag ≡ Some (row_found ns (get_or ns i d) i (n + 1))

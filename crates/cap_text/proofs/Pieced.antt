@@ -1,5 +1,5 @@
 -- A piece that ends, by where it stands.
-use Rattle.std.proofs.Common.{ℕ, ◌+◌, ◌-◌, ◌<◌, ◌≤◌, ◌≡◌, List, [], ◌∷◌, ◌++◌, Bool, true, false, length, length-append, take, drop, get_or, refl, sym, ◌∙◌, ap, arith, cond, subst, Option, Some, None, inl, inr}
+use Rattle.std.proofs.Common.{ℕ, ◌+◌, ◌-◌, ◌<◌, ◌≡◌, List, [], ◌∷◌, ◌++◌, Bool, true, false, length, length-append, take, drop, get_or, refl, sym, ◌∙◌, ap, arith, cond, Option, Some, None}
 use Rattle.std.specs.Prelude.{◌&&◌, ◌||◌, ◌==◌, option_map}
 use Rattle.std.specs.Str.{bytes_eq}
 use Rattle.std.proofs.lemmas.List.{drop_more, take_all, length-drop}
@@ -7,13 +7,13 @@ use Rattle.cap_leaf.specs.declared.kinds.Kind.{Kind}
 use Rattle.cap_leaf.specs.declared.kinds.LeafKind.{LeafKind}
 use Rattle.cap_leaf.specs.declared.leaf.Leaf.{Leaf}
 use Rattle.cap_leaf.specs.Spelling.{leaf_of}
-use Rattle.cap_leaf.specs.Schema.{Content, Table, leaf, all, one_of}
-use Rattle.cap_leaf.specs.Trees.{Data, value, branch, none}
+use Rattle.cap_leaf.specs.Schema.{Content, leaf, all, one_of}
+use Rattle.cap_leaf.specs.Trees.{value, branch, none}
 use Rattle.cap_text.specs.Pieces.{Piece, declaration, document, opening, closing, leaf_opening, ending, declaration_text, document_text, opening_text, closing_text}
 use Rattle.cap_text.specs.Faults.{Known, told_by}
-use Rattle.cap_text.specs.Machine.{Left, rows, choice, Frame, State, inside, in_leaf, whole, Found, look, ready, onto, close, fresh, enter, enter_leaf, around, opened, leaf_opened, Doc, first, prolog, within, root, within_if, filled_by, doc_step}
-use Rattle.cap_text.specs.Bytes.{Reading, inner, content_of, kinds, document_in, opening_of, opening_by, piece_of, standing, barred, moved, ended, passed_by}
-use Rattle.cap_text.specs.Inner.{closes, name_in, tagged, sought, sought_by, entered, entered_by, opened_by}
+use Rattle.cap_text.specs.Machine.{Left, rows, choice, Frame, inside, in_leaf, Found, look, ready, onto, close, fresh, enter, enter_leaf, around, opened, leaf_opened, Doc, first, prolog, within, root, within_if, filled_by, doc_step}
+use Rattle.cap_text.specs.Bytes.{inner, content_of, kinds, document_in, opening_of, opening_by, piece_of, standing, barred, moved, ended, passed_by}
+use Rattle.cap_text.specs.Inner.{closes, tagged, sought, sought_by, entered, entered_by, opened_by}
 use Rattle.cap_text.proofs.Common.{same_tag, tag_is, some_is}
 use Rattle.cap_text.proofs.Fronts.{same_end, closes_is, inner_is, opens_is, place_of, content_is, ending_is}
 
@@ -42,17 +42,17 @@ ended_closing k f fs n front c r =
     let size : length (closing_text f.tag) ≡ length front + 1 = ap length (tag_is (closing_text f.tag) (text front) (closes_is f.tag front ∙ c)) ∙ one_more front in
     let done = close fs (branch (onto f.done none)) in
     sym (ap (ended (in_structure k f fs) n (text front)) (closing_piece k f fs front c)
-      ∙ ap (λ t. moved (in_structure k f fs) n (text front) (closing f.tag) (within_if k (cond (t && ready f.left) (Some done) None))) (same_tag f.tag)
-      ∙ ap (λ t. moved (in_structure k f fs) n (text front) (closing f.tag) (within_if k (cond t (Some done) None))) r
-      ∙ ap (λ m. standing (within k done) (told_by n (closing f.tag) m) []) size)
+    ∙ ap (λ t. moved (in_structure k f fs) n (text front) (closing f.tag) (within_if k (cond (t && ready f.left) (Some done) None))) (same_tag f.tag)
+    ∙ ap (λ t. moved (in_structure k f fs) n (text front) (closing f.tag) (within_if k (cond t (Some done) None))) r
+    ∙ ap (λ m. standing (within k done) (told_by n (closing f.tag) m) []) size)
 
 pub ended_unready : (k : Kind) (f : Frame) (fs : List Frame) (n : Known) (front : List ℕ) → closes f.tag front ≡ true → ready f.left ≡ false
     → barred (in_structure k f fs) n (text front) true ≡ ended (in_structure k f fs) n (text front) (piece_of (in_structure k f fs) (text front))
 ended_unready k f fs n front c r =
     let done = close fs (branch (onto f.done none)) in
     sym (ap (ended (in_structure k f fs) n (text front)) (closing_piece k f fs front c)
-      ∙ ap (λ t. moved (in_structure k f fs) n (text front) (closing f.tag) (within_if k (cond (t && ready f.left) (Some done) None))) (same_tag f.tag)
-      ∙ ap (λ t. moved (in_structure k f fs) n (text front) (closing f.tag) (within_if k (cond t (Some done) None))) r)
+    ∙ ap (λ t. moved (in_structure k f fs) n (text front) (closing f.tag) (within_if k (cond (t && ready f.left) (Some done) None))) (same_tag f.tag)
+    ∙ ap (λ t. moved (in_structure k f fs) n (text front) (closing f.tag) (within_if k (cond t (Some done) None))) r)
 
 -- ---- the opening of a child
 
@@ -134,9 +134,9 @@ pub ended_filled : (k : Kind) (tag : List ℕ) (j : LeafKind) (fs : List Frame) 
 ended_filled k tag j fs n front x c e =
     let content = take (place_of tag front) front in
     sym (ap (ended (in_a_leaf k tag j fs) n (text front)) (leaf_piece k tag j fs front true c)
-      ∙ ap (λ t. moved (in_a_leaf k tag j fs) n (text front) (ending tag content) (within_if k (cond t (filled_by fs (leaf_of j content)) None))) (same_tag tag)
-      ∙ ap (λ o. moved (in_a_leaf k tag j fs) n (text front) (ending tag content) (within_if k (filled_by fs o))) e
-      ∙ ap (λ m. standing (within k (close fs (value x))) (told_by n (ending tag content) m) []) (leaf_size tag front c))
+    ∙ ap (λ t. moved (in_a_leaf k tag j fs) n (text front) (ending tag content) (within_if k (cond t (filled_by fs (leaf_of j content)) None))) (same_tag tag)
+    ∙ ap (λ o. moved (in_a_leaf k tag j fs) n (text front) (ending tag content) (within_if k (filled_by fs o))) e
+    ∙ ap (λ m. standing (within k (close fs (value x))) (told_by n (ending tag content) m) []) (leaf_size tag front c))
 
 pub ended_misspelt : (k : Kind) (tag : List ℕ) (j : LeafKind) (fs : List Frame) (n : Known) (front : List ℕ) → closes tag (drop (place_of tag front) front) ≡ true
     → leaf_of j (take (place_of tag front) front) ≡ None
@@ -144,8 +144,8 @@ pub ended_misspelt : (k : Kind) (tag : List ℕ) (j : LeafKind) (fs : List Frame
 ended_misspelt k tag j fs n front c e =
     let content = take (place_of tag front) front in
     sym (ap (ended (in_a_leaf k tag j fs) n (text front)) (leaf_piece k tag j fs front true c)
-      ∙ ap (λ t. moved (in_a_leaf k tag j fs) n (text front) (ending tag content) (within_if k (cond t (filled_by fs (leaf_of j content)) None))) (same_tag tag)
-      ∙ ap (λ o. moved (in_a_leaf k tag j fs) n (text front) (ending tag content) (within_if k (filled_by fs o))) e)
+    ∙ ap (λ t. moved (in_a_leaf k tag j fs) n (text front) (ending tag content) (within_if k (cond t (filled_by fs (leaf_of j content)) None))) (same_tag tag)
+    ∙ ap (λ o. moved (in_a_leaf k tag j fs) n (text front) (ending tag content) (within_if k (filled_by fs o))) e)
 
 pub ended_unclosed : (k : Kind) (tag : List ℕ) (j : LeafKind) (fs : List Frame) (n : Known) (front : List ℕ) → closes tag (drop (place_of tag front) front) ≡ false
     → barred (in_a_leaf k tag j fs) n (text front) true ≡ ended (in_a_leaf k tag j fs) n (text front) (piece_of (in_a_leaf k tag j fs) (text front))

@@ -1,9 +1,9 @@
 -- One row of a table, as the loops meet it.
-use Rattle.std.proofs.Common.{ℕ, zero, suc, ◌<◌, ◌≤◌, ◌+◌, ◌≡◌, List, [], ◌∷◌, Bool, true, false, nat_lt, Option, Some, None, refl, sym, ◌∙◌, ap, arith, cond, subst, rules, length, drop, get_or}
+use Rattle.std.proofs.Common.{ℕ, zero, suc, ◌<◌, ◌≤◌, ◌+◌, ◌≡◌, List, [], ◌∷◌, true, false, nat_lt, Some, None, sym, ◌∙◌, ap, arith, cond, rules, length, drop, get_or}
 use Rattle.std.specs.Str.{bytes_eq}
 use Rattle.std.proofs.lemmas.List.{drop_more}
 use Rattle.cap_leaf.specs.declared.schema.Node.{Node}
-use Rattle.cap_leaf.specs.Schema.{Content, Table, end, row}
+use Rattle.cap_leaf.specs.Schema.{row}
 use Rattle.cap_leaf.specs.View.{table_view, content_view}
 use Rattle.cap_trees.specs.Tests.{bounded_test, bounded_in}
 use Rattle.cap_text.specs.Machine.{rows, filled, Found, seek, pick, satisfied}
@@ -20,13 +20,13 @@ at_row ns i d lt = ap table_view (drop_more ns i d lt) ∙ node_is (get_or ns i 
 
 seeks : (ns : List Node) (i : ℕ) (d : Node) (n : ℕ) (tag : List ℕ) → i < length ns → seek (table_view (drop i ns)) i n tag
     ≡ cond (bytes_eq (get_or ns i d).tag.now tag)
-        (cond (nat_lt n (get_or ns i d).most) (Some (row_found ns (get_or ns i d) i (suc n))) None)
-        (cond (nat_lt n (get_or ns i d).least) None (seek (table_view (drop (i + 1) ns)) (suc i) 0 tag))
+    (cond (nat_lt n (get_or ns i d).most) (Some (row_found ns (get_or ns i d) i (suc n))) None)
+    (cond (nat_lt n (get_or ns i d).least) None (seek (table_view (drop (i + 1) ns)) (suc i) 0 tag))
 seeks ns i d n tag lt =
     ap (λ t. seek t i n tag) (at_row ns i d lt)
     ∙ ap (λ t. cond (bytes_eq (get_or ns i d).tag.now tag)
-        (cond (nat_lt n (get_or ns i d).most) (Some record { left = rows t i (suc n); at = i; content = content_view (get_or ns i d).shape }) None)
-        (cond (nat_lt n (get_or ns i d).least) None (seek (table_view (drop (i + 1) ns)) (suc i) 0 tag))) (sym (at_row ns i d lt))
+    (cond (nat_lt n (get_or ns i d).most) (Some record { left = rows t i (suc n); at = i; content = content_view (get_or ns i d).shape }) None)
+    (cond (nat_lt n (get_or ns i d).least) None (seek (table_view (drop (i + 1) ns)) (suc i) 0 tag))) (sym (at_row ns i d lt))
 
 pub seeks_found : (ns : List Node) (i : ℕ) (d : Node) (n : ℕ) (tag : List ℕ) → i < length ns → bytes_eq (get_or ns i d).tag.now tag ≡ true → n < (get_or ns i d).most
     → seek (table_view (drop i ns)) i n tag ≡ Some (row_found ns (get_or ns i d) i (n + 1))

@@ -81,7 +81,10 @@ fn is_declaration(front: &[u8]) -> bool
     ensures { result ≡ (bytes_eq (declaration_text false) (front.now ++ 62 ∷ []) || bytes_eq (declaration_text true) (front.now ++ 62 ∷ [])) }
 {
     is_same(b"<?xml version=\"1.0\" encoding=\"UTF-8\"?", front)
-        || is_same(b"<?xml version=\"1.0\" encoding=\"UTF-8\" standalone=\"yes\"?", front)
+        || is_same(
+            b"<?xml version=\"1.0\" encoding=\"UTF-8\" standalone=\"yes\"?",
+            front,
+        )
 }
 
 // Whether a text is the closing of a tag, up to its `>`.
@@ -99,13 +102,7 @@ fn name_in(front: &[u8]) -> Option<&[u8]>
     ensures { MatchOption result (name_of front.now ≡ None) (λ name. name_of front.now ≡ Some name.now) }
 {
     match front {
-        [first, name @ ..] => {
-            if b'<' == *first {
-                Some(name)
-            } else {
-                None
-            }
-        }
+        [first, name @ ..] => { if b'<' == *first { Some(name) } else { None } }
         [] => None,
     }
 }
@@ -157,7 +154,14 @@ fn open_structure(
 }
 
 // Opens a child.
-fn enter(kind: Kind, stack: Open, found: Found, known: Known, bytes: u64, alloc: Global) -> Result<Reading, Memory>
+fn enter(
+    kind: Kind,
+    stack: Open,
+    found: Found,
+    known: Known,
+    bytes: u64,
+    alloc: Global,
+) -> Result<Reading, Memory>
     requires some { 1 ≤ bytes }
     requires counted { known.depth ≤ known.place }
     requires bounded { bounded_in (content_view found.node.now.shape) ≡ true }
@@ -199,24 +203,33 @@ fn close_structure(kind: Kind, stack: Open, known: Known, bytes: u64) -> Result<
 }
 
 // Closes a leaf.
-fn fill(kind: Kind, leaf: OpenLeaf, read: Leaf, content: &[u8], known: Known, bytes: u64) -> Result<Reading, Memory>
+fn fill(
+    kind: Kind,
+    leaf: OpenLeaf,
+    read: Leaf,
+    content: &[u8],
+    known: Known,
+    bytes: u64,
+) -> Result<Reading, Memory>
     requires { known.depth ≤ known.place }
     ensures read { known.place + bytes < 2 ^ 64
         → IfOk result (λ r. reading_of r ≡ standing (within kind (close (open_of leaf.open) (value read))) (told_by (known_of known) (ending leaf.tag.now content.now) bytes) []) }
     ensures few { IfOk result (λ r. r.known.place + length r.held.bytes.items ≤ known.place + bytes) }
 {
-    let OpenLeaf {
-        tag,
-        kind: _,
-        open,
-    } = leaf;
+    let OpenLeaf { tag, kind: _, open } = leaf;
     let known = known.ended(tag, content, bytes);
     let stack = open.with(Tree::Leaf(read))?;
     Ok(Reading::standing(Doc::Inside(kind, stack), known))
 }
 
 // Ends a piece inside a structure.
-fn end_inside(held: Held, kind: Kind, stack: Open, known: Known, alloc: Global) -> Result<Reading, Memory>
+fn end_inside(
+    held: Held,
+    kind: Kind,
+    stack: Open,
+    known: Known,
+    alloc: Global,
+) -> Result<Reading, Memory>
     requires room { length held.bytes.items < 128 }
     requires counted { known.depth ≤ known.place }
     ensures read { known.place + (length held.bytes.items + 1) < 2 ^ 64

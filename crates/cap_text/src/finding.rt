@@ -1,13 +1,13 @@
+ghost use Rattle.std.specs.Prelude.{◌≡◌, MatchOption};
+ghost use Rattle.cap_leaf.specs.declared.kinds.Kind.{Kind};
+ghost use Rattle.cap_leaf.specs.Trees.{data_of, branch, none, child};
+ghost use Rattle.cap_text.specs.Bytes.{Verdict, message_in};
+
 use crate::error::ReadError;
 use crate::open::Doc;
 use crate::reading::Reading;
 use crate::reason::fault;
 use cap_leaf::{Child, Kind, Tree};
-
-ghost use Rattle.std.specs.Prelude.{◌≡◌, MatchOption};
-ghost use Rattle.cap_leaf.specs.declared.kinds.Kind.{Kind};
-ghost use Rattle.cap_leaf.specs.Trees.{data_of, branch, none, child};
-ghost use Rattle.cap_text.specs.Bytes.{Verdict, message_in};
 
 // The one child of a structure, where it has one alone.
 fn only_child(tree: Tree) -> Option<Child>

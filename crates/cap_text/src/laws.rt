@@ -10,5 +10,4 @@ pub fn reading_is_exact()
     ensures tree { (bytes : List ℕ) (k j : Kind) (d e : Data) → Spells k d bytes → Spells j e bytes → (k ≡ j) × (d ≡ e) }
     ensures fault { (bytes : List ℕ) (f g : Fault) → FirstFault bytes f → FirstFault bytes g → f ≡ g }
     ensures either { (bytes : List ℕ) → ((k : Kind) × (d : Data) × Spells k d bytes) ⊎ ((f : Fault) × FirstFault bytes f) }
-{
-}
+{}

@@ -1,10 +1,10 @@
+ghost use Rattle.std.specs.Prelude.{◌≡◌, true};
+ghost use Rattle.cap_leaf.specs.Spelling.{is_kind};
+
 use crate::frames::{Frame, Left};
 use cap_leaf::{Kind, LeafKind, Tree};
 use cap_trees::schema_of;
 use std::alloc::{AllocError, Global};
-
-ghost use Rattle.std.specs.Prelude.{◌≡◌, true};
-ghost use Rattle.cap_leaf.specs.Spelling.{is_kind};
 
 /// The structures that are open, the innermost apart.
 #[derive(Drop)]

@@ -47,7 +47,10 @@ fn other_version(bytes: &[u8]) -> bool
 fn is_management(named: Option<Kind>) -> bool
     ensures { result ≡ management_test named }
 {
-    matches!(named, Some(Kind::Catm001 | Kind::Catm002 | Kind::Catm003 | Kind::Catm004))
+    matches!(
+        named,
+        Some(Kind::Catm001 | Kind::Catm002 | Kind::Catm003 | Kind::Catm004)
+    )
 }
 
 fn last_reason(known: &Known, rest: &[u8]) -> Reason
@@ -91,7 +94,10 @@ fn reason(known: &Known, ends: bool, rest: &[u8]) -> Reason
     let unnamed = known.named.is_none();
     if !ends {
         Reason::Pars
-    } else if unnamed && (begins_with(b"<Document xmlns=\"urn:x-cap20:", rest) && other_version(after(rest, 29))) {
+    } else if unnamed
+        && (begins_with(b"<Document xmlns=\"urn:x-cap20:", rest)
+            && other_version(after(rest, 29)))
+    {
         Reason::Vers
     } else if unnamed && begins_with(b"<Document xmlns=\"", rest) {
         Reason::Msgt

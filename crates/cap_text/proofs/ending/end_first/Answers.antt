@@ -17,12 +17,12 @@ returns-then-is_declaration-clause-read c = λ fits.
     ∙ (ap (λ n. standing prolog n []) (c.passed.ensures.known (let P : ℕ → Type 0 = λ m. c.args.known.place + (m + 1) < 2 ^ 64 in subst P (sym len) fits))
     ∙ (ap (λ m. standing prolog (passed_by (known_of c.args.known) (m + 1)) []) len
     ∙ ended_declared (known_of c.args.known) c.args.held.bytes.items
-      (ap (λ (t : List ℕ). bytes_eq (declaration_text false) (t ++ 62 ∷ []) || bytes_eq (declaration_text true) (t ++ 62 ∷ [])) (sym same) ∙ (sym c.is_declaration.ensures ∙ c.if-is_declaration.true))))
+    (ap (λ (t : List ℕ). bytes_eq (declaration_text false) (t ++ 62 ∷ []) || bytes_eq (declaration_text true) (t ++ 62 ∷ [])) (sym same) ∙ (sym c.is_declaration.ensures ∙ c.if-is_declaration.true))))
 
 pub returns-clause-read : goal.returns-clause-read
 returns-clause-read c = λ fits.
     let same = c.as_slice-front.ensures.value in
     if_ok c.end_prolog.result _ _
     (λ r h. h ∙ ended_undeclared (known_of c.args.known) c.args.held.bytes.items
-      (ap (λ (t : List ℕ). bytes_eq (declaration_text false) (t ++ 62 ∷ []) || bytes_eq (declaration_text true) (t ++ 62 ∷ [])) (sym same) ∙ (sym c.is_declaration.ensures ∙ c.if-is_declaration.false)))
+    (ap (λ (t : List ℕ). bytes_eq (declaration_text false) (t ++ 62 ∷ []) || bytes_eq (declaration_text true) (t ++ 62 ∷ [])) (sym same) ∙ (sym c.is_declaration.ensures ∙ c.if-is_declaration.false)))
     (c.end_prolog.ensures.read fits)

@@ -17,8 +17,8 @@ returns-in-Some-clause-read c = λ fits.
     let found = found_of c.args.stack.current.nodes.now c.in-Some.child in
     if_ok c.enter.result _ _
     (λ r h. h ∙ (ap (λ m. entered c.args.kind f fs (known_of c.args.known) tag found (m + 1)) len
-      ∙ ended_entered c.args.kind f fs (known_of c.args.known) c.args.held.bytes.items tag found
-        (ap (closes f.tag) (sym same) ∙ (sym c.closes.ensures ∙ c.if-closes.false)) (ap (sought f.left) (sym same) ∙ c.in-Some.ensures.row)))
+    ∙ ended_entered c.args.kind f fs (known_of c.args.known) c.args.held.bytes.items tag found
+    (ap (closes f.tag) (sym same) ∙ (sym c.closes.ensures ∙ c.if-closes.false)) (ap (sought f.left) (sym same) ∙ c.in-Some.ensures.row)))
     (c.enter.ensures.read (let P : ℕ → Type 0 = λ m. c.args.known.place + (m + 1) < 2 ^ 64 in subst P (sym len) fits))
 
 pub returns-in-None-clause-read : goal.returns-in-None-clause-read
@@ -27,4 +27,4 @@ returns-in-None-clause-read c = λ fits.
     let f = frame_of c.args.stack.current in
     c.barred-in-None.ensures.read
     ∙ ended_lost c.args.kind f (frames_of c.args.stack.outer.items) (known_of c.args.known) c.args.held.bytes.items
-      (ap (closes f.tag) (sym same) ∙ (sym c.closes.ensures ∙ c.if-closes.false)) (ap (sought f.left) (sym same) ∙ c.in-None.ensures.row)
+    (ap (closes f.tag) (sym same) ∙ (sym c.closes.ensures ∙ c.if-closes.false)) (ap (sought f.left) (sym same) ∙ c.in-None.ensures.row)

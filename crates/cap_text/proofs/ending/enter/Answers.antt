@@ -1,6 +1,6 @@
-use Rattle.std.proofs.Common.{◌≡◌, ◌∙◌, ap, sym, ◌∷◌}
-use Rattle.cap_leaf.specs.Schema.{leaf, all, one_of}
-use Rattle.cap_leaf.specs.View.{table_view, content_view}
+use Rattle.std.proofs.Common.{◌∙◌, ap, sym, ◌∷◌}
+use Rattle.cap_leaf.specs.Schema.{leaf}
+use Rattle.cap_leaf.specs.View.{content_view}
 use Rattle.cap_leaf.proofs.Views.{content_leaf, content_all, content_one_of}
 use Rattle.cap_trees.specs.Tests.{bounded_in}
 use Rattle.cap_text.specs.Machine.{in_leaf}
@@ -20,18 +20,18 @@ returns-in-Leaf-clause-read c = λ fits.
     (ap (λ g. in_leaf c.args.found.node.now.tag.now c.in-Leaf.leaf (g ∷ frames_of c.args.stack.outer.items)) c.at.ensures)
     (c.leaf_opened.ensures.known fits)
     ∙ sym (entered_is c.args.kind (frame_of c.args.stack.current) (frames_of c.args.stack.outer.items) (known_of c.args.known) c.args.found.node.now.tag.now
-      (found_of c.args.stack.current.nodes.now c.args.found) c.args.bytes (leaf c.in-Leaf.leaf) (ap content_view c.in-Leaf.is ∙ content_leaf c.in-Leaf.leaf))
+    (found_of c.args.stack.current.nodes.now c.args.found) c.args.bytes (leaf c.in-Leaf.leaf) (ap content_view c.in-Leaf.is ∙ content_leaf c.in-Leaf.leaf))
 
 pub returns-in-All-clause-read : goal.returns-in-All-clause-read
 returns-in-All-clause-read c = λ fits.
     if_ok c.open_structure.result _ _
     (λ r h. h ∙ entered_all c.args.kind (frame_of c.at.result) (frame_of c.args.stack.current) (frames_of c.args.stack.outer.items) (known_of c.args.known) c.args.found.node.now.tag.now
-      (found_of c.args.stack.current.nodes.now c.args.found) c.args.bytes _ (ap content_view c.in-All.is ∙ content_all _) c.at.ensures)
+    (found_of c.args.stack.current.nodes.now c.args.found) c.args.bytes _ (ap content_view c.in-All.is ∙ content_all _) c.at.ensures)
     (c.open_structure.ensures.read fits)
 
 pub returns-in-OneOf-clause-read : goal.returns-in-OneOf-clause-read
 returns-in-OneOf-clause-read c = λ fits.
     if_ok c.open_structure-in-OneOf.result _ _
     (λ r h. h ∙ entered_one c.args.kind (frame_of c.at.result) (frame_of c.args.stack.current) (frames_of c.args.stack.outer.items) (known_of c.args.known) c.args.found.node.now.tag.now
-      (found_of c.args.stack.current.nodes.now c.args.found) c.args.bytes _ (ap content_view c.in-OneOf.is ∙ content_one_of _) c.at.ensures)
+    (found_of c.args.stack.current.nodes.now c.args.found) c.args.bytes _ (ap content_view c.in-OneOf.is ∙ content_one_of _) c.at.ensures)
     (c.open_structure-in-OneOf.ensures.read fits)

@@ -1,4 +1,4 @@
-use Rattle.std.proofs.Common.{◌≡◌, ◌∙◌, ap, ◌∷◌}
+use Rattle.std.proofs.Common.{◌∙◌, ap, ◌∷◌}
 use Rattle.cap_leaf.specs.Schema.{table_in}
 use Rattle.cap_leaf.specs.View.{content_view}
 use Rattle.cap_text.specs.Machine.{inside, fresh}
@@ -18,6 +18,6 @@ pub returns-clause-read : goal.returns-clause-read
 returns-clause-read c = λ fits.
     stands c.args.kind _ _ _ _ _ c.standing.ensures.read
     (ap inside (c.in_ok-stack.ensures
-      ∙ ap (λ f. f ∷ open_of c.args.stack) (c.fresh-inner.ensures
-        ∙ ap (fresh c.args.node.now.tag.now) (ap (left_of c.table.result.now) c.start.ensures ∙ begun_is c.args.one c.table.result.now (table_in (content_view c.args.node.now.shape)) c.table.ensures))))
+    ∙ ap (λ f. f ∷ open_of c.args.stack) (c.fresh-inner.ensures
+    ∙ ap (fresh c.args.node.now.tag.now) (ap (left_of c.table.result.now) c.start.ensures ∙ begun_is c.args.one c.table.result.now (table_in (content_view c.args.node.now.shape)) c.table.ensures))))
     (c.opened.ensures.known fits)

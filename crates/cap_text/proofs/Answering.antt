@@ -1,6 +1,6 @@
 -- What the calls answer.
-use Rattle.std.proofs.Common.{ℕ, ◌≡◌, ◌<◌, ◌≤◌, ◌+◌, ◌^◌, List, ◌++◌, length, take, Option, Some, None, refl, sym, ◌∙◌, ap, subst, arith, inl, inr, length-append, false}
-use Rattle.std.specs.Prelude.{⊤, Result, Ok, Err, MatchResult}
+use Rattle.std.proofs.Common.{ℕ, ◌≡◌, ◌<◌, ◌+◌, ◌^◌, List, ◌++◌, length, Some, None, sym, ◌∙◌, ap, arith, length-append}
+use Rattle.std.specs.Prelude.{Result, Ok, Err, MatchResult}
 use Rattle.std.proofs.lemmas.List.{length-take}
 use Rattle.cap_leaf.specs.declared.kinds.Kind.{Kind}
 use Rattle.cap_leaf.specs.declared.tree.Tree.{Tree}
@@ -10,12 +10,11 @@ use Rattle.cap_text.specs.declared.error.ReadError.TheVariants.{Fault, Memory}
 use Rattle.cap_text.specs.declared.reading.Reading.{Reading as CodeReading}
 use Rattle.cap_text.specs.declared.reader.PieceReader.{PieceReader}
 use Rattle.cap_text.specs.Pieces.{Spells, text_of}
-use Rattle.cap_text.specs.Faults.{FirstFault}
-use Rattle.cap_text.specs.Bytes.{Reading, begun, on_bytes, Verdict, spells, fault, verdict_of, run_bytes}
+use Rattle.cap_text.specs.Bytes.{Reading, begun, on_bytes, Verdict, verdict_of, run_bytes}
 use Rattle.cap_text.specs.Seen.{reading_of, reading_in}
-use Rattle.cap_text.specs.Reads.{HasRead, HasFailed, IsFaultOf}
+use Rattle.cap_text.specs.Reads.{HasRead, IsFaultOf}
 use Rattle.cap_text.specs.Verdicts.{IsVerdict}
-use Rattle.cap_text.proofs.Came.{Came, came}
+use Rattle.cap_text.proofs.Came.{came}
 use Rattle.cap_text.proofs.Verdict.{place_of, verdict_document, verdict_fault, in_pieces}
 
 some_reading : (r s : Reading) → Some r ≡ Some s → r ≡ s

@@ -1,13 +1,12 @@
 -- Closing a structure in the code and in the machine.
-use Rattle.std.proofs.Common.{ℕ, suc, ◌<◌, ◌≡◌, List, [], ◌∷◌, ◌++◌, Bool, true, map, reverse, refl, sym, ◌∙◌, ap, arith, length, nat_lt, rules}
-use Rattle.std.specs.Prelude.{◌&&◌}
+use Rattle.std.proofs.Common.{ℕ, suc, ◌<◌, ◌≡◌, List, [], ◌∷◌, ◌++◌, true, map, reverse, refl, sym, ◌∙◌, ap, arith, length, nat_lt, rules}
 use Rattle.std.proofs.lemmas.List.{map-append, reverse-append}
 use Rattle.cap_leaf.specs.declared.tree.Child.{Child}
 use Rattle.cap_leaf.specs.declared.tree.Tree.TheVariants as tree
 use Rattle.cap_leaf.specs.declared.schema.Node.{Node}
-use Rattle.cap_leaf.specs.Schema.{Content, Table, leaf, all, one_of, end, row, table_in}
+use Rattle.cap_leaf.specs.Schema.{Content, leaf, all, one_of, table_in}
 use Rattle.cap_leaf.specs.Trees.{Children, branch, none, child, data_of, children_view}
-use Rattle.cap_leaf.specs.View.{table_view, content_view}
+use Rattle.cap_leaf.specs.View.{table_view}
 use Rattle.cap_trees.specs.Tests.{rows_in, bounded_test, bounded_in}
 use Rattle.cap_text.specs.Machine.{Read, onto, close, inside}
 use Rattle.cap_text.specs.declared.frames.Frame.{Frame}

@@ -1,12 +1,12 @@
 -- Tests of a text's front, and of a text up to its `>`.
-use Rattle.std.proofs.Common.{ℕ, zero, suc, ◌+◌, ◌-◌, ◌≤◌, ◌≡◌, List, [], ◌∷◌, ◌++◌, Bool, true, false, length, take, drop, length-append, refl, sym, ◌∙◌, ap, arith, subst, cond, rules}
+use Rattle.std.proofs.Common.{ℕ, zero, suc, ◌+◌, ◌-◌, ◌≤◌, ◌≡◌, List, [], ◌∷◌, ◌++◌, Bool, true, false, length, take, drop, length-append, refl, ◌∙◌, ap, arith, rules}
 use Rattle.std.specs.Prelude.{◌&&◌, ◌==◌, min}
 use Rattle.std.specs.Str.{bytes_eq}
-use Rattle.std.proofs.lemmas.List.{take-append-le, length-drop}
+use Rattle.std.proofs.lemmas.List.{take-append-le}
 use Rattle.cap_text.specs.Pieces.{opening_text, closing_text}
 use Rattle.cap_text.specs.Faults.{begins_with}
 use Rattle.cap_text.specs.Bytes.{inner, content_of}
-use Rattle.cap_text.specs.Inner.{closes, name_in}
+use Rattle.cap_text.specs.Inner.{closes}
 
 pub begins_is : (front bytes : List ℕ) → bytes_eq front (take (length front) bytes) ≡ begins_with front bytes
 begins_is [] bytes = refl

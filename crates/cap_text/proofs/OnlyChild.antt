@@ -1,12 +1,12 @@
 -- The one child of a structure.
-use Rattle.std.proofs.Common.{ℕ, ◌≡◌, ◌+◌, List, [], ◌∷◌, ◌++◌, length, length-append, Option, Some, None, refl, sym, ◌∙◌, ap, arith, subst}
+use Rattle.std.proofs.Common.{◌≡◌, List, [], ◌∷◌, ◌++◌, length, length-append, Option, Some, None, refl, sym, ◌∙◌, ap, arith}
 use Rattle.std.specs.Prelude.{MatchOption}
 use Rattle.cap_leaf.specs.declared.kinds.Kind.{Kind}
 use Rattle.cap_leaf.specs.declared.tree.Child.{Child}
 use Rattle.cap_leaf.specs.declared.tree.Tree.{Tree}
 use Rattle.cap_leaf.specs.declared.tree.Tree.TheVariants as tree
 use Rattle.cap_leaf.specs.declared.leaf.Leaf.{Leaf}
-use Rattle.cap_leaf.specs.Trees.{Data, Children, value, branch, none, child, data_of, children_view}
+use Rattle.cap_leaf.specs.Trees.{Data, branch, none, child, data_of, children_view}
 use Rattle.cap_text.specs.Bytes.{Verdict, message_in}
 use Rattle.cap_text.proofs.Seeing.{data_leaf, data_branch, children_cons}
 

@@ -1,5 +1,5 @@
 -- A piece that ends, by where it stands.
-use Rattle.std.proofs.Common.{ℕ, ◌+◌, ◌-◌, ◌<◌, ◌≤◌, ◌≡◌, List, [], ◌∷◌, ◌++◌, Bool, true, false, length, length-append, take, drop, get_or, refl, sym, ◌∙◌, ap, arith, cond, subst, Option, Some, None, inl, inr}
+use Rattle.std.proofs.Common.{ℕ, ◌+◌, ◌-◌, ◌<◌, ◌≡◌, List, [], ◌∷◌, ◌++◌, Bool, true, false, length, length-append, take, drop, get_or, refl, sym, ◌∙◌, ap, arith, cond, Option, Some, None}
 use Rattle.std.specs.Prelude.{◌&&◌, ◌||◌, ◌==◌, option_map}
 use Rattle.std.specs.Str.{bytes_eq}
 use Rattle.std.proofs.lemmas.List.{drop_more, take_all, length-drop}
@@ -7,13 +7,13 @@ use Rattle.cap_leaf.specs.declared.kinds.Kind.{Kind}
 use Rattle.cap_leaf.specs.declared.kinds.LeafKind.{LeafKind}
 use Rattle.cap_leaf.specs.declared.leaf.Leaf.{Leaf}
 use Rattle.cap_leaf.specs.Spelling.{leaf_of}
-use Rattle.cap_leaf.specs.Schema.{Content, Table, leaf, all, one_of}
-use Rattle.cap_leaf.specs.Trees.{Data, value, branch, none}
+use Rattle.cap_leaf.specs.Schema.{Content, leaf, all, one_of}
+use Rattle.cap_leaf.specs.Trees.{value, branch, none}
 use Rattle.cap_text.specs.Pieces.{Piece, declaration, document, opening, closing, leaf_opening, ending, declaration_text, document_text, opening_text, closing_text}
 use Rattle.cap_text.specs.Faults.{Known, told_by}
-use Rattle.cap_text.specs.Machine.{Left, rows, choice, Frame, State, inside, in_leaf, whole, Found, look, ready, onto, close, fresh, enter, enter_leaf, around, opened, leaf_opened, Doc, first, prolog, within, root, within_if, filled_by, doc_step}
-use Rattle.cap_text.specs.Bytes.{Reading, inner, content_of, kinds, document_in, opening_of, opening_by, piece_of, standing, barred, moved, ended, passed_by}
-use Rattle.cap_text.specs.Inner.{closes, name_in, tagged, sought, sought_by, entered, entered_by, opened_by}
+use Rattle.cap_text.specs.Machine.{Left, rows, choice, Frame, inside, in_leaf, Found, look, ready, onto, close, fresh, enter, enter_leaf, around, opened, leaf_opened, Doc, first, prolog, within, root, within_if, filled_by, doc_step}
+use Rattle.cap_text.specs.Bytes.{inner, content_of, kinds, document_in, opening_of, opening_by, piece_of, standing, barred, moved, ended, passed_by}
+use Rattle.cap_text.specs.Inner.{closes, tagged, sought, sought_by, entered, entered_by, opened_by}
 use Rattle.cap_text.proofs.Common.{same_tag, tag_is, some_is}
 use Rattle.cap_text.proofs.Fronts.{same_end, closes_is, inner_is, opens_is, place_of, content_is, ending_is}
 

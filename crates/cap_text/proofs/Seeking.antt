@@ -1,9 +1,9 @@
 -- One row of a table, as the loops meet it.
-use Rattle.std.proofs.Common.{ℕ, zero, suc, ◌<◌, ◌≤◌, ◌+◌, ◌≡◌, List, [], ◌∷◌, Bool, true, false, nat_lt, Option, Some, None, refl, sym, ◌∙◌, ap, arith, cond, subst, rules, length, drop, get_or}
+use Rattle.std.proofs.Common.{ℕ, zero, suc, ◌<◌, ◌≤◌, ◌+◌, ◌≡◌, List, [], ◌∷◌, true, false, nat_lt, Some, None, sym, ◌∙◌, ap, arith, cond, rules, length, drop, get_or}
 use Rattle.std.specs.Str.{bytes_eq}
 use Rattle.std.proofs.lemmas.List.{drop_more}
 use Rattle.cap_leaf.specs.declared.schema.Node.{Node}
-use Rattle.cap_leaf.specs.Schema.{Content, Table, end, row}
+use Rattle.cap_leaf.specs.Schema.{row}
 use Rattle.cap_leaf.specs.View.{table_view, content_view}
 use Rattle.cap_trees.specs.Tests.{bounded_test, bounded_in}
 use Rattle.cap_text.specs.Machine.{rows, filled, Found, seek, pick, satisfied}

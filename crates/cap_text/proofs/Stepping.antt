@@ -1,10 +1,10 @@
 -- One byte, by what it is.
-use Rattle.std.proofs.Common.{ℕ, ◌≡◌, ◌<◌, ◌≤◌, ◌+◌, List, [], ◌∷◌, ◌++◌, length, take, sym, refl, ◌∙◌, ap, arith, subst, length-append, Bool, true, false, nat_lt, Option, Some, None, cond, not}
+use Rattle.std.proofs.Common.{ℕ, ◌≡◌, ◌≤◌, ◌+◌, List, [], ◌∷◌, ◌++◌, length, take, sym, refl, ◌∙◌, ap, arith, length-append, Bool, true, false, nat_lt, Some, cond, not}
 use Rattle.std.specs.Prelude.{◌&&◌, ◌||◌, Result, Ok, Err, IfOk}
 use Rattle.std.proofs.lemmas.List.{length-take}
-use Rattle.cap_text.specs.Pieces.{Piece, blank, is_space}
+use Rattle.cap_text.specs.Pieces.{blank, is_space}
 use Rattle.cap_text.specs.Faults.{Known, is_end}
-use Rattle.cap_text.specs.Machine.{Doc, doc_step}
+use Rattle.cap_text.specs.Machine.{Doc}
 use Rattle.cap_text.specs.Bytes.{Reading, most, is_empty, may_blank, piece_of, standing, barred, moved, ended, on_byte, blanked, passed_by}
 use Rattle.cap_text.proofs.Common.{and_true}
 use Rattle.cap_text.proofs.Tokens.{blank_steps}

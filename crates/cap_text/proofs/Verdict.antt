@@ -6,7 +6,6 @@ use Rattle.std.proofs.lemmas.List.{length-take}
 use Rattle.std.specs.Prelude.{◌&&◌, ◌||◌, ◌==◌, fold, codes}
 use Rattle.std.specs.List.{list_any}
 use Rattle.std.specs.Char.{is_ascii_digit}
-use Rattle.std.specs.Str.{bytes_eq}
 use Rattle.cap_base.specs.declared.codes.Reason.TheVariants.{Imsg, Pars, Secu, Vers, Msgt}
 use Rattle.cap_leaf.specs.declared.kinds.Kind.{Kind}
 use Rattle.cap_leaf.specs.Trees.{Data, value, branch, none, child}

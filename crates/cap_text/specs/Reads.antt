@@ -1,10 +1,10 @@
 -- What a reader has read, and what an error says of it.
-use Rattle.std.specs.Prelude.{ℕ, ◌≡◌, ⊤, List, Option, Some, None}
+use Rattle.std.specs.Prelude.{ℕ, ◌≡◌, ⊤, List, Some, None}
 use Rattle.cap_text.specs.declared.error.ReadError.{ReadError}
 use Rattle.cap_text.specs.declared.error.ReadError.TheVariants.{Fault, Memory}
 use Rattle.cap_text.specs.declared.reader.PieceReader.{PieceReader}
 use Rattle.cap_text.specs.Faults.{FirstFault}
-use Rattle.cap_text.specs.Bytes.{Reading, begun, on_bytes}
+use Rattle.cap_text.specs.Bytes.{begun, on_bytes}
 use Rattle.cap_text.specs.Seen.{reading_in, held_in}
 
 -- the reader has read these bytes, in whatever pieces

@@ -1,5 +1,5 @@
 -- The room for bytes that are held.
-use Rattle.std.specs.Prelude.{ℕ, ◌≡◌, ◌<◌, ◌≤◌, false, length}
+use Rattle.std.specs.Prelude.{◌≡◌, ◌<◌, ◌≤◌, false, length}
 use Rattle.cap_text.specs.declared.held.Held.{Held}
 use Rattle.cap_text.specs.declared.known.Known.{Known}
 

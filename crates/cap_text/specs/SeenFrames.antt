@@ -1,5 +1,5 @@
 -- What the reader's open structures stand for.
-use Rattle.std.specs.Prelude.{ℕ, Bool, if◌then◌else◌, List, [], ◌∷◌, drop, map, reverse}
+use Rattle.std.specs.Prelude.{Bool, if◌then◌else◌, List, ◌∷◌, drop, map, reverse}
 use Rattle.cap_leaf.specs.declared.schema.Node.{Node}
 use Rattle.cap_leaf.specs.declared.tree.Child.{Child}
 use Rattle.cap_leaf.specs.Trees.{data_of, Data, branch, none}

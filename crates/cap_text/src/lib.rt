@@ -15,6 +15,8 @@ mod reading;
 mod reason;
 mod rows;
 mod skipping;
+#[cfg(test)]
+mod tests;
 mod write;
 
 pub use document::read_document;

@@ -1,4 +1,4 @@
-use Rattle.std.proofs.Common.{◌≡◌, ◌∙◌, sym, ap, true, false}
+use Rattle.std.proofs.Common.{◌∙◌, sym, ap}
 use Rattle.std.specs.Str.{bytes_eq}
 use Rattle.cap_text.proofs.Pieced.{document_found, document_other}
 use Rattle.cap_text.proofs.ending.document_among.Goals as goal

@@ -1,4 +1,3 @@
-use Rattle.std.proofs.Common.{◌≡◌, ◌∙◌, refl}
 use Rattle.cap_text.specs.Bytes.{kinds}
 use Rattle.cap_text.proofs.ending.document_in.Goals as goal
 

@@ -1,4 +1,4 @@
-use Rattle.std.proofs.Common.{◌≡◌, ◌∙◌, ◌++◌, ◌∷◌, [], ap, sym}
+use Rattle.std.proofs.Common.{◌∙◌, ◌++◌, ◌∷◌, [], ap, sym}
 use Rattle.cap_text.specs.Bytes.{ended, piece_of}
 use Rattle.cap_text.specs.SeenDocs.{doc_of}
 use Rattle.cap_text.specs.SeenKnown.{known_of}

@@ -1,4 +1,4 @@
-use Rattle.std.proofs.Common.{ℕ, ◌≡◌, ◌+◌, ◌<◌, ◌^◌, ◌∙◌, List, [], length, take, true, false, ap, sym, subst, Some}
+use Rattle.std.proofs.Common.{ℕ, ◌≡◌, ◌+◌, ◌<◌, ◌^◌, ◌∙◌, List, [], length, take, true, false, ap, sym, subst}
 use Rattle.cap_leaf.specs.Spelling.{leaf_of}
 use Rattle.cap_leaf.specs.Trees.{value}
 use Rattle.cap_text.specs.Pieces.{ending}

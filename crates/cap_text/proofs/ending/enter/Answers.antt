@@ -1,6 +1,6 @@
-use Rattle.std.proofs.Common.{◌≡◌, ◌∙◌, ap, sym, ◌∷◌}
-use Rattle.cap_leaf.specs.Schema.{leaf, all, one_of}
-use Rattle.cap_leaf.specs.View.{table_view, content_view}
+use Rattle.std.proofs.Common.{◌∙◌, ap, sym, ◌∷◌}
+use Rattle.cap_leaf.specs.Schema.{leaf}
+use Rattle.cap_leaf.specs.View.{content_view}
 use Rattle.cap_leaf.proofs.Views.{content_leaf, content_all, content_one_of}
 use Rattle.cap_trees.specs.Tests.{bounded_in}
 use Rattle.cap_text.specs.Machine.{in_leaf}

@@ -1,4 +1,4 @@
-use Rattle.std.proofs.Common.{◌≡◌, ◌∙◌, ap}
+use Rattle.std.proofs.Common.{◌∙◌, ap}
 use Rattle.cap_text.specs.Machine.{close}
 use Rattle.cap_text.specs.SeenDocs.{open_of}
 use Rattle.cap_text.proofs.Seeing.{data_leaf}

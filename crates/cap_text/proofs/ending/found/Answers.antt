@@ -1,4 +1,3 @@
-use Rattle.std.proofs.Common.{◌≡◌}
 use Rattle.cap_text.specs.SeenFrames.{left_of}
 use Rattle.cap_text.proofs.SoughtRow.{sought_row}
 use Rattle.cap_text.proofs.ending.found.Goals as goal

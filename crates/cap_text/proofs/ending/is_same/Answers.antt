@@ -1,4 +1,4 @@
-use Rattle.std.proofs.Common.{◌≡◌, ◌∙◌, sym}
+use Rattle.std.proofs.Common.{◌∙◌, sym}
 use Rattle.cap_text.proofs.Fronts.{same_end}
 use Rattle.cap_text.proofs.ending.is_same.Goals as goal
 

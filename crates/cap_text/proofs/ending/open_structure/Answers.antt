@@ -1,4 +1,4 @@
-use Rattle.std.proofs.Common.{◌≡◌, ◌∙◌, ap, ◌∷◌}
+use Rattle.std.proofs.Common.{◌∙◌, ap, ◌∷◌}
 use Rattle.cap_leaf.specs.Schema.{table_in}
 use Rattle.cap_leaf.specs.View.{content_view}
 use Rattle.cap_text.specs.Machine.{inside, fresh}

@@ -1,4 +1,4 @@
-use Rattle.std.proofs.Common.{◌≡◌, ◌∙◌}
+use Rattle.std.proofs.Common.{◌∙◌}
 use Rattle.cap_text.proofs.Fronts.{begins_some}
 use Rattle.cap_text.proofs.reason.begins_with.Goals as goal
 

@@ -1,4 +1,4 @@
-use Rattle.std.proofs.Common.{◌≡◌, ◌∙◌, sym, ap, arith, true, false}
+use Rattle.std.proofs.Common.{◌∙◌, sym, ap}
 use Rattle.std.specs.Str.{bytes_eq}
 use Rattle.cap_text.proofs.Common.{tag_is}
 use Rattle.cap_text.proofs.Seeking.{picks_found, picks_on, bounded_at}

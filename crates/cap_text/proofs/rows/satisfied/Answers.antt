@@ -1,4 +1,4 @@
-use Rattle.std.proofs.Common.{◌≡◌, ◌∙◌, sym}
+use Rattle.std.proofs.Common.{◌∙◌, sym}
 use Rattle.cap_text.proofs.Seeking.{suffices_not, suffices_on}
 use Rattle.cap_text.proofs.rows.satisfied.Goals as goal
 

@@ -1,4 +1,4 @@
-use Rattle.std.proofs.Common.{◌≡◌, ◌∙◌, sym, ap, arith, true, false}
+use Rattle.std.proofs.Common.{◌∙◌, sym, ap}
 use Rattle.std.specs.Str.{bytes_eq}
 use Rattle.cap_text.proofs.Common.{tag_is}
 use Rattle.cap_text.proofs.Seeking.{seeks_found, seeks_full, seeks_short, seeks_on, bounded_at}

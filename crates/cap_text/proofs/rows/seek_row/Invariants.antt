@@ -1,4 +1,4 @@
-use Rattle.std.proofs.Common.{◌≡◌, ◌≤◌, drop}
+use Rattle.std.proofs.Common.{◌≡◌, drop}
 use Rattle.cap_leaf.specs.View.{table_view}
 use Rattle.cap_text.specs.Machine.{seek}
 use Rattle.cap_text.proofs.rows.seek_row.Given as goal

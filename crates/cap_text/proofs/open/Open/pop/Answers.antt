@@ -1,6 +1,4 @@
 use Rattle.std.proofs.Common.{rules, ◌≡◌, ◌∙◌, sym, ap, [], ◌∷◌, ◌++◌}
-use Rattle.cap_leaf.specs.declared.tree.Tree.TheVariants as tree
-use Rattle.cap_leaf.specs.Trees.{data_of}
 use Rattle.cap_text.specs.Machine.{within, whole, close, inside}
 use Rattle.cap_text.specs.SeenFrames.{frames_of, frame_of, branch_of}
 use Rattle.cap_text.proofs.Closing.{branch_read, popped}

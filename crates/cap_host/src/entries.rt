@@ -1,4 +1,4 @@
-ghost use Rattle.std.specs.Prelude.{◌≡◌, ◌<◌, ◌++◌, IfOk, IfSome, None, length};
+ghost use Rattle.std.specs.Prelude.{◌≡◌, ◌<◌, ◌++◌, IfOk, IfSome, None, length, slice_get, ◌-◌};
 ghost use Rattle.cap_entries.specs.Log.{log, published, setup_of};
 ghost use Rattle.cap_entries.specs.HostAllowed.{LegalHost};
 ghost use Rattle.cap_host.specs.Received.{place_from};
@@ -36,8 +36,7 @@ pub(crate) fn count_sets(entries: &[HostEntry]) -> usize
     count
 }
 
-// The newest set, if there is one.
-pub(crate) fn newest(entries: &[HostEntry]) -> Result<Option<RowSet>, Memory>
+fn last_published(entries: &[HostEntry]) -> Result<Option<RowSet>, Memory>
     ensures { IfOk result (λ set. set ≡ last_set None entries.now) }
 {
     let mut last = None;
@@ -47,6 +46,13 @@ pub(crate) fn newest(entries: &[HostEntry]) -> Result<Option<RowSet>, Memory>
         }
     }
     Ok(last)
+}
+
+// The newest set, if there is one.
+pub(crate) fn newest(entries: &[HostEntry]) -> Result<Option<RowSet>, Memory>
+    ensures { IfOk result (λ set. set ≡ slice_get (published entries.now) (length (published entries.now) - 1)) }
+{
+    last_published(entries)
 }
 
 // How the host was set up.

@@ -5,5 +5,10 @@ mod advice;
 mod entries;
 mod fit;
 mod plain;
+mod request;
+mod status;
 
-pub use plain::Answer;
+pub use plain::{Answer, answer_fault, answer_message};
+
+#[cfg(test)]
+mod tests;

@@ -1,18 +1,28 @@
-ghost use Rattle.std.specs.Prelude.{◌≡◌, IfOk, List};
+ghost use Rattle.std.specs.Prelude.{◌≡◌, [], true, IfOk, List, length};
+ghost use Rattle.cap_base.specs.declared.item.Item.TheVariants.{Cancel};
+ghost use Rattle.cap_base.specs.declared.codes.Response.TheVariants.{Appr};
+ghost use Rattle.cap_batch_msgs.specs.declared.body.BatchBody.TheVariants.{DiagnosticAnswer};
+ghost use Rattle.cap_msgs.specs.declared.message.Body.TheVariants.{Sale as Of_sale, Batch as Of_batch, Management as Of_management};
 ghost use Rattle.cap_entries.specs.declared.host.HostEntry.{HostEntry};
+ghost use Rattle.cap_base.specs.Fits.{all_fit};
 ghost use Rattle.cap_entries.specs.HostAllowed.{LegalHost};
 ghost use Rattle.cap_entries.specs.Log.{log};
 ghost use Rattle.cap_msgs.specs.Received.{Read, Unread};
 ghost use Rattle.cap_msgs.specs.Report.{report_of, is_from_host, is_unanswered, is_management, ended_item};
-ghost use Rattle.cap_host.specs.Answer.{silent, answers, answer_of};
-ghost use Rattle.cap_host.specs.Received.{rejection, rejects, answer_received};
+ghost use Rattle.cap_host.specs.Answer.{silent, answers, answer_of, answer_data, answer_advice, answer_batch, answer_cancel_request};
+ghost use Rattle.cap_host.specs.Received.{rejection, rejects, answer_received, answer_from};
 
-use cap_base::{Item, Memory, Reason};
+use crate::advice::{advise, advise_many};
+use crate::entries::{log_of, place_of, settings};
+use crate::request::{decide, decide_cancel};
+use crate::status::give;
+use cap_base::{Amount, Item, Memory, Reason, Response};
 use cap_batch_msgs::BatchBody;
 use cap_entries::HostEntry;
 use cap_leaf::{Fault, Refused};
 use cap_mgmt_msgs::MgmtBody;
 use cap_msgs::{Body, Message};
+use cap_plain::logs_fit;
 use cap_sale_msgs::{Ended, SaleBody};
 use std::alloc::Global;
 use std::marker::Model;
@@ -125,4 +135,256 @@ fn item_of(ended: &Ended) -> Item
         },
         Ended::Void { n } => Item::Void { n },
     }
+}
+
+fn cancellation(n: u64, amount: Amount) -> Item
+    ensures { result ≡ Cancel n amount }
+{
+    Item::Cancel { n, amount }
+}
+
+// The log of the terminal at this place, whose items fit one after another.
+fn own_log(alloc: Global, entries: &[HostEntry], place: u8) -> Result<Vec<Item>, Memory>
+    requires { LegalHost entries.now }
+    ensures value { IfOk result (λ v. v.items ≡ log entries.now place) }
+    ensures fit { IfOk result (λ v. all_fit [] v.items ≡ true) }
+{
+    logs_fit();
+    let own = log_of(alloc, entries, place)?;
+    Ok(own)
+}
+
+// An item that the terminal at this place reports.
+fn advise_at(
+    alloc: Global,
+    entries: &[HostEntry],
+    place: u8,
+    number: u64,
+    item: &Item,
+) -> Result<Answer, Memory>
+    requires { LegalHost entries.now }
+    ensures { IfOk result (λ a. a ≡ answer_advice place (log entries.now place) number item.now) }
+{
+    let own = own_log(alloc, entries, place)?;
+    advise(alloc, own, place, number, item)
+}
+
+// A question on the cancellation of a sale of the terminal at this place.
+fn cancel_at(
+    alloc: Global,
+    entries: &[HostEntry],
+    place: u8,
+    number: u64,
+    amount: Amount,
+) -> Result<Answer, Memory>
+    ensures { IfOk result (λ a. a ≡ answer_cancel_request (log entries.now place) number amount) }
+{
+    let own = log_of(alloc, entries, place)?;
+    Ok(decide_cancel(alloc, &own, number, amount))
+}
+
+// A message on one sale of the terminal at this place.
+fn answer_sale(
+    alloc: Global,
+    entries: &[HostEntry],
+    place: u8,
+    number: u64,
+    body: &SaleBody,
+) -> Result<Answer, Memory>
+    requires { LegalHost entries.now }
+    ensures { IfOk result (λ a. a ≡ answer_of entries.now place number (Of_sale body.now)) }
+{
+    match body {
+        SaleBody::AuthRequest { amount, account } => {
+            let setup = settings(entries);
+            Ok(decide(alloc, setup, number, *amount, account))
+        }
+        SaleBody::CancelRequest { amount } => cancel_at(alloc, entries, place, number, *amount),
+        SaleBody::Completion(ended) => advise_at(alloc, entries, place, number, &item_of(ended)),
+        SaleBody::CancelAdvice { n, amount } => {
+            advise_at(alloc, entries, place, number, &cancellation(*n, *amount))
+        }
+        _ => Ok(quiet(alloc)),
+    }
+}
+
+// How far the host is.
+fn tell_state(alloc: Global, log: &[Item]) -> Answer
+    ensures { result ≡ answers (Of_batch (DiagnosticAnswer Appr (length log.now))) }
+{
+    let body = BatchBody::DiagnosticAnswer {
+        response: Response::Appr,
+        last: log.len() as u64,
+    };
+    replies(alloc, Body::Batch(body))
+}
+
+fn state_at(alloc: Global, entries: &[HostEntry], place: u8) -> Result<Answer, Memory>
+    ensures { IfOk result (λ a. a ≡ answers (Of_batch (DiagnosticAnswer Appr (length (log entries.now place))))) }
+{
+    let own = log_of(alloc, entries, place)?;
+    Ok(tell_state(alloc, &own))
+}
+
+// Items that the terminal at this place reports.
+fn advise_many_at(
+    alloc: Global,
+    entries: &[HostEntry],
+    place: u8,
+    number: u64,
+    items: &[Item],
+) -> Result<Answer, Memory>
+    ensures { IfOk result (λ a. a ≡ answer_batch place (log entries.now place) number items.now) }
+{
+    let own = log_of(alloc, entries, place)?;
+    advise_many(alloc, &own, place, number, items)
+}
+
+// A message on a period or a batch of the terminal at this place, or a question.
+fn answer_rows(
+    alloc: Global,
+    entries: &[HostEntry],
+    place: u8,
+    number: u64,
+    body: &BatchBody,
+) -> Result<Answer, Memory>
+    requires { LegalHost entries.now }
+    ensures { IfOk result (λ a. a ≡ answer_of entries.now place number (Of_batch body.now)) }
+{
+    match body {
+        BatchBody::Diagnostic { .. } => state_at(alloc, entries, place),
+        BatchBody::Reconcile { period, totals } => {
+            let item = Item::Close {
+                p: *period,
+                totals: *totals,
+            };
+            advise_at(alloc, entries, place, number, &item)
+        }
+        BatchBody::Batch(items) => advise_many_at(alloc, entries, place, number, items.as_slice()),
+        _ => Ok(quiet(alloc)),
+    }
+}
+
+fn given(alloc: Global, body: Option<MgmtBody>) -> Answer
+    ensures { result ≡ answer_data body }
+{
+    match body {
+        Some(body) => replies(alloc, Body::Management(body)),
+        None => {
+            let refused = Refused {
+                reason: Reason::Unpr,
+                expected: None,
+                place: None,
+            };
+            replies(
+                alloc,
+                Body::Management(MgmtBody::ManagementRejection(refused)),
+            )
+        }
+    }
+}
+
+// A message of terminal management.
+fn answer_management(
+    alloc: Global,
+    entries: &[HostEntry],
+    place: u8,
+    number: u64,
+    body: &MgmtBody,
+) -> Result<Answer, Memory>
+    requires { LegalHost entries.now }
+    ensures { IfOk result (λ a. a ≡ answer_of entries.now place number (Of_management body.now)) }
+{
+    match body {
+        MgmtBody::Status {
+            wanted,
+            in_force,
+            staged,
+            parts,
+        } => {
+            let setup = settings(entries);
+            let body = give(alloc, entries, setup, *wanted, *in_force, *staged, *parts)?;
+            Ok(given(alloc, body))
+        }
+        _ => Ok(quiet(alloc)),
+    }
+}
+
+// A message of the terminal at this place, to this host.
+fn answer_at(
+    alloc: Global,
+    entries: &[HostEntry],
+    place: u8,
+    number: u64,
+    body: &Body,
+) -> Result<Answer, Memory>
+    requires { LegalHost entries.now }
+    ensures { IfOk result (λ a. a ≡ answer_of entries.now place number body.now) }
+{
+    match body {
+        Body::Sale(body) => answer_sale(alloc, entries, place, number, body),
+        Body::Batch(body) => answer_rows(alloc, entries, place, number, body),
+        Body::Management(body) => answer_management(alloc, entries, place, number, body),
+    }
+}
+
+// A message to this host, by its sender's place.
+fn answer_by(
+    alloc: Global,
+    entries: &[HostEntry],
+    place: Option<u8>,
+    message: &Message,
+) -> Result<Answer, Memory>
+    requires { LegalHost entries.now }
+    ensures { IfOk result (λ a. a ≡ answer_from entries.now place message.now.header.exchange message.now.body) }
+{
+    match place {
+        Some(place) => answer_at(
+            alloc,
+            entries,
+            place,
+            message.header.exchange,
+            &message.body,
+        ),
+        None => Ok(rejected(alloc, &message.body, Reason::Intp)),
+    }
+}
+
+/// What a host with these entries adds and answers to a message of anyone, to anyone.
+pub fn answer_message(
+    alloc: Global,
+    entries: &[HostEntry],
+    message: &Message,
+) -> Result<Answer, Memory>
+    requires { LegalHost entries.now }
+    ensures { IfOk result (λ a. a ≡ answer_received entries.now (Read message.now)) }
+{
+    let setup = settings(entries);
+    if needs_no_answer(&message.body) {
+        return Ok(quiet(alloc));
+    }
+    if is_of_host(&message.body) {
+        return Ok(rejected(alloc, &message.body, Reason::Msgt));
+    }
+    if message.header.to != setup.host() {
+        return Ok(rejected(alloc, &message.body, Reason::Rcpp));
+    }
+    answer_by(
+        alloc,
+        entries,
+        place_of(setup, &message.header.from),
+        message,
+    )
+}
+
+/// What a host answers to what is no document.
+pub fn answer_fault(alloc: Global, fault: &Fault) -> Answer
+    ensures { (entries : List HostEntry) → result ≡ answer_received entries (Unread fault.now) }
+{
+    let refused = Refused {
+        reason: fault.reason,
+        expected: None,
+        place: Some(fault.place),
+    };
+    replies(alloc, rejection_of(fault.management, refused))
 }

@@ -1,6 +1,6 @@
 -- What a leaf that was read keeps: its kind, its range, and the rules of its type.
-use Rattle.std.proofs.Common.{ℕ, zero, suc, ◌+◌, ◌*◌, ◌^◌, ◌<◌, ◌≤◌, ◌≡◌, List, [], ◌∷◌, Bool, true, false, length, refl, sym, ◌∙◌, ap, arith, rules, subst, cond, Option, Some, None, inl, inr, lit<}
-use Rattle.std.specs.Prelude.{◌&&◌, ◌==◌, ⊤, nat_le, nat_lt, option_map, if◌then◌else◌}
+use Rattle.std.proofs.Common.{ℕ, suc, ◌+◌, ◌^◌, ◌<◌, ◌≤◌, ◌≡◌, List, [], ◌∷◌, Bool, true, false, length, refl, ◌∙◌, ap, arith, rules, subst, cond, Option, Some, None, inl, inr}
+use Rattle.std.specs.Prelude.{◌&&◌, ◌==◌, nat_le, nat_lt, option_map, if◌then◌else◌}
 use Rattle.std.specs.List.{list_all}
 use Rattle.std.specs.Char.{is_ascii_digit, digit_value}
 use Rattle.std.specs.Str.{bytes_eq}
@@ -8,21 +8,20 @@ use Rattle.std.specs.Str.Parse.{digits_value, AllDigits}
 use Rattle.std.proofs.lemmas.Int.Digits.{digits_value-lt}
 use Rattle.std.proofs.lemmas.Bool.Decides.{nat_tests}
 use Rattle.cap_base.specs.Text.{is_run, is_ident, is_account, is_code6}
-use Rattle.cap_base.specs.Amount.{IsAmount, whole_of, tail_of, is_tail, cents_of, hundredths_of, is_decimal}
+use Rattle.cap_base.specs.Amount.{whole_of, tail_of, is_tail, cents_of, hundredths_of, is_decimal}
 use Rattle.cap_base.proofs.Digits.{all_take_while, is_digit_range, digit_value_of, below_most, hundredths_fit}
-use Rattle.cap_leaf.specs.declared.zone.Zone.{Zone}
 use Rattle.cap_leaf.specs.declared.zone.Zone.TheVariants.{Local, Utc}
 use Rattle.cap_leaf.specs.Date.{is_zone, is_millis, is_date_time}
-use Rattle.cap_leaf.specs.DateText.{part, number_at, are_digits, is_moment, is_fraction, millis_of, is_offset, is_zone_text, zone_of, offset_in, fraction_in, zone_in, is_date, date_of}
+use Rattle.cap_leaf.specs.DateText.{part, number_at, are_digits, is_moment, is_fraction, millis_of, is_offset, is_zone_text, zone_of, fraction_in, zone_in, is_date, date_of}
 use Rattle.cap_leaf.specs.declared.kinds.LeafKind.{LeafKind}
 use Rattle.cap_leaf.specs.declared.kinds.LeafKind.TheVariants as kind
 use Rattle.cap_leaf.specs.declared.kinds.CodeList.{CodeList}
 use Rattle.cap_leaf.specs.declared.leaf.Leaf.{Leaf}
 use Rattle.cap_leaf.specs.declared.leaf.Leaf.TheVariants as leaf
-use Rattle.cap_leaf.specs.Codes.{codes_of, is_list}
+use Rattle.cap_leaf.specs.Codes.{codes_of}
 use Rattle.cap_leaf.specs.Spelling.{leaf_of, is_kind, is_leaf, IsLeafOf, IsValue, place_in}
 use Rattle.cap_leaf.proofs.Moments.{moment_of, all_parts, offset_of, second_of}
-use Rattle.cap_text.proofs.Common.{and_true, tag_is, chosen, some_is}
+use Rattle.cap_text.proofs.Common.{and_true, chosen, some_is}
 
 at_most : (n m : ℕ) → nat_le n m ≡ true → n ≤ m
 at_most n m e = search rules
@@ -95,8 +94,8 @@ zone_small : (t : List ℕ) → is_zone_text t ≡ true → is_zone (zone_of t) 
 zone_small t e =
     by_test (λ z. is_zone z ≡ true) (bytes_eq t []) Local _ (λ same. refl)
     (λ other. by_test (λ z. is_zone z ≡ true) (bytes_eq t (90 ∷ [])) Utc _ (λ same. refl)
-      (λ neither. let o = offset_of t (second_of (bytes_eq t (90 ∷ [])) (is_offset t) (second_of (bytes_eq t []) _ e other) neither) in
-        ap (λ b. b && nat_lt (number_at 4 2 t) 60) o.hour ∙ o.minute))
+    (λ neither. let o = offset_of t (second_of (bytes_eq t (90 ∷ [])) (is_offset t) (second_of (bytes_eq t []) _ e other) neither) in
+    ap (λ b. b && nat_lt (number_at 4 2 t) 60) o.hour ∙ o.minute))
 
 date_holds : (text : List ℕ) → is_date text ≡ true → is_date_time (date_of text) ≡ true
 date_holds text e =

@@ -1,9 +1,9 @@
 -- What was read fits its kind, and its canonical text spells it again.
-use Rattle.std.proofs.Common.{ℕ, ◌≡◌, List, [], ◌∷◌, Option, Some, None, sym, ◌∙◌, ap, subst}
+use Rattle.std.proofs.Common.{ℕ, ◌≡◌, List, Option, sym, ap, subst}
 use Rattle.std.specs.Prelude.{◌↔◌}
 use Rattle.cap_leaf.specs.declared.kinds.Kind.{Kind}
-use Rattle.cap_leaf.specs.Schema.{Content, Table, leaf, all, one_of, row, Row}
-use Rattle.cap_leaf.specs.Trees.{Data, Children, value, branch, none, child}
+use Rattle.cap_leaf.specs.Schema.{Content, Table, Row}
+use Rattle.cap_leaf.specs.Trees.{Data, Children, none, child}
 use Rattle.cap_leaf.proofs.LeavesBack.{reads_back}
 use Rattle.cap_trees.specs.Tables.{table_of}
 use Rattle.cap_trees.specs.Tests.{Sound, SoundIn}
@@ -12,7 +12,7 @@ use Rattle.cap_trees.specs.Fits as fits
 use Rattle.cap_trees.proofs.Tables.{tables_sound}
 use Rattle.cap_text.specs.Pieces.{Piece, Element, Rows, Choice, a_leaf, in_order, a_choice, no_row, white, one_more, next_row, white_first, this_row, other_row, Spells}
 use Rattle.cap_text.specs.Canon.{row_at, canonical_text}
-use Rattle.cap_text.specs.Written.{IsSpelt, SpeltAt, AreSpelt, EachSpelt}
+use Rattle.cap_text.specs.Written.{SpeltAt, AreSpelt, EachSpelt}
 use Rattle.cap_text.proofs.Writing.{Within, within_first, within_rest, within_self}
 use Rattle.cap_text.proofs.Canonicals.{canonical_spells}
 use Rattle.cap_text.proofs.LeavesRead.{leaf_holds}
@@ -59,6 +59,7 @@ pub spells_again : (k : Kind) (d : Data) (bytes : List ℕ) → Spells k d bytes
 spells_again k d bytes s = let b = both_of k d bytes s in canonical_spells k d b.0 b.1
 
 pub same_tree : (k : Kind) (d e : Data) (a b : List ℕ) → Spells k d a → Spells k e b → (d ≡ e) ↔ (canonical_text k d ≡ canonical_text k e)
-same_tree k d e a b s t =
-    (λ same. ap (canonical_text k) same,
-     λ texts. (one_tree (canonical_text k d) k k d e (spells_again k d a s) (let P : List ℕ → Type 0 = λ x. Spells k e x in subst P (sym texts) (spells_again k e b t))).1)
+same_tree k d e a b s t = (
+  λ same. ap (canonical_text k) same,
+  λ texts. (one_tree (canonical_text k d) k k d e (spells_again k d a s) (let P : List ℕ → Type 0 = λ x. Spells k e x in subst P (sym texts) (spells_again k e b t))).1,
+)

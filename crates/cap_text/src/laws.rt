@@ -20,5 +20,4 @@ pub fn writing_is_stable()
     ensures fits { (k : Kind) (d : Data) (bytes : List ℕ) → Spells k d bytes → FitsKind k d }
     ensures again { (k : Kind) (d : Data) (bytes : List ℕ) → Spells k d bytes → Spells k d (canonical_text k d) }
     ensures same { (k : Kind) (d e : Data) (a b : List ℕ) → Spells k d a → Spells k e b → (d ≡ e) ↔ (canonical_text k d ≡ canonical_text k e) }
-{
-}
+{}

@@ -1,6 +1,6 @@
 -- What the calls answer.
 use Rattle.std.proofs.Common.{ℕ, ◌≡◌, ◌<◌, ◌+◌, ◌^◌, List, ◌++◌, length, Some, None, sym, ◌∙◌, ap, arith, length-append}
-use Rattle.std.specs.Prelude.{Result, Ok, Err, MatchResult}
+use Rattle.std.specs.Prelude.{Result, Ok, Err, IfOk, MatchResult}
 use Rattle.std.proofs.lemmas.List.{length-take}
 use Rattle.cap_leaf.specs.declared.kinds.Kind.{Kind}
 use Rattle.cap_leaf.specs.declared.tree.Tree.{Tree}
@@ -14,6 +14,8 @@ use Rattle.cap_text.specs.Bytes.{Reading, begun, on_bytes, Verdict, verdict_of, 
 use Rattle.cap_text.specs.Seen.{reading_of, reading_in}
 use Rattle.cap_text.specs.Reads.{HasRead, IsFaultOf}
 use Rattle.cap_text.specs.Verdicts.{IsVerdict}
+use Rattle.cap_trees.specs.Fits.{FitsKind}
+use Rattle.cap_text.proofs.WrittenAgain.{spells_fit}
 use Rattle.cap_text.proofs.Came.{came}
 use Rattle.cap_text.proofs.Verdict.{place_of, verdict_document, verdict_fault, in_pieces}
 
@@ -48,3 +50,9 @@ pub finishes : (r : PieceReader) (q : CodeReading) (result : Result (Kind × Tre
 finishes r q result e v bytes h =
     let same : reading_of q ≡ on_bytes begun bytes = some_reading (reading_of q) (on_bytes begun bytes) (sym (ap reading_in e) ∙ h) in
     verdict_says bytes (verdict_of (reading_of q)) result (sym (ap verdict_of same)) v
+
+-- what was read fits its kind
+pub ok_fits : (bytes : List ℕ) (result : Result (Kind × Tree) ReadError) → MatchResult result (λ d. Spells d.0 (data_of d.1) bytes) (λ e. IsFaultOf bytes e)
+    → IfOk result (λ d. FitsKind d.0 (data_of d.1))
+ok_fits bytes (Ok d) h = spells_fit d.0 (data_of d.1) bytes h
+ok_fits bytes (Err e) h = tt

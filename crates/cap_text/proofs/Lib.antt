@@ -16,6 +16,8 @@ pub mod Closing
 pub mod Keeping
 pub mod Stepping
 pub mod Pieced
+pub mod LeavesRead
+pub mod WrittenAgain
 pub mod Answering
 pub mod OnlyChild
 pub mod SoughtRow

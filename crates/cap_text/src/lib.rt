@@ -21,6 +21,6 @@ mod write;
 
 pub use document::read_document;
 pub use error::ReadError;
-pub use laws::reading_is_exact;
+pub use laws::{reading_is_exact, writing_is_stable};
 pub use reader::PieceReader;
 pub use write::{message_number, write_document};

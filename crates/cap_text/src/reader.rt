@@ -1,4 +1,4 @@
-ghost use Rattle.std.specs.Prelude.{◌≡◌, ◌<◌, ◌≤◌, ◌+◌, ◌^◌, ◌++◌, [], OnOk, OnErr, IsErr, MatchResult, List, ℕ, length};
+ghost use Rattle.std.specs.Prelude.{◌≡◌, ◌<◌, ◌≤◌, ◌+◌, ◌^◌, ◌++◌, [], OnOk, OnErr, IsErr, IfOk, MatchResult, List, ℕ, length};
 ghost use Rattle.cap_leaf.specs.Trees.{data_of};
 
 use crate::error::ReadError;
@@ -16,6 +16,7 @@ pub struct PieceReader {
 }
 
 impl PieceReader {
+    ghost use Rattle.cap_trees.specs.Fits.{FitsKind};
     ghost use Rattle.cap_text.specs.Pieces.{Spells};
     ghost use Rattle.cap_text.specs.Reads.{HasRead, HasFailed, IsFaultOf, held_by};
 
@@ -49,6 +50,7 @@ impl PieceReader {
     /// The document that was read, or its first fault, or want of memory.
     pub fn finish(self) -> Result<(Kind, Tree), ReadError>
         ensures read { (bytes : List ℕ) → HasRead self bytes → MatchResult result (λ d. Spells d.0 (data_of d.1) bytes) (λ e. IsFaultOf bytes e) }
+        ensures fits { (bytes : List ℕ) → HasRead self bytes → IfOk result (λ d. FitsKind d.0 (data_of d.1)) }
         ensures failed { HasFailed self → IsErr result }
     {
         match self.reading {

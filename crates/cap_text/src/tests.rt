@@ -1,4 +1,4 @@
-use crate::{PieceReader, ReadError, read_document};
+use crate::{PieceReader, ReadError, message_number, read_document, write_document};
 use cap_base::{Ident, Reason};
 use cap_leaf::{Fault, Kind};
 use std::alloc::{AllocError, Global};
@@ -121,5 +121,118 @@ fn spaces_and_noise(rt: HostRuntime) -> Result<(), Fail> {
     let fault = fault_of(rt.alloc(), &noise).ok_or("a document")?;
     assert_eq!(rt; fault.place, 0);
     assert_eq!(rt; fault.reason, Reason::Pars);
+    Ok(())
+}
+
+const Y: &str =
+    "<Document xmlns=\"urn:x-cap20:1:caaa.004\"><AccptrCmpltnAdvcRspn><Hdr><MsgFctn>CMPK</MsgFctn><PrtcolVrsn>1</PrtcolVrsn><XchgId>1</XchgId><CreDtTm>2023-11-14T22:13:25Z</CreDtTm><InitgPty><Id>ACQ1</Id></InitgPty><RcptPty><Id>T1</Id></RcptPty></Hdr><CmpltnAdvcRspn><Rspn>APPR</Rspn></CmpltnAdvcRspn></AccptrCmpltnAdvcRspn></Document>";
+
+// The number and the canonical text of a document.
+fn shown(alloc: Global, bytes: &[u8]) -> Option<(&'static str, Vec<u8>)> {
+    match read_document(alloc, bytes) {
+        Ok((kind, tree)) => match write_document(alloc, kind, &tree) {
+            Ok(text) => Some((message_number(kind), text)),
+            Err(_) => None,
+        },
+        Err(_) => None,
+    }
+}
+
+#[test]
+fn written_to_the_byte(rt: HostRuntime) -> Result<(), Fail> {
+    for (number, text) in [
+        ("caaa.003", X),
+        ("caaa.004", Y),
+        (
+            "caaa.001",
+            "<Document xmlns=\"urn:x-cap20:1:caaa.001\"><AccptrAuthstnReq><Hdr><MsgFctn>AUTQ</MsgFctn><PrtcolVrsn>1</PrtcolVrsn><XchgId>7</XchgId><CreDtTm>2023-11-14T22:13:20Z</CreDtTm><InitgPty><Id>T1</Id></InitgPty><RcptPty><Id>ACQ1</Id></RcptPty></Hdr><AuthstnReq><TtlAmt>0.01</TtlAmt><PAN>40000012</PAN></AuthstnReq></AccptrAuthstnReq></Document>",
+        ),
+        (
+            "caaa.002",
+            "<Document xmlns=\"urn:x-cap20:1:caaa.002\"><AccptrAuthstnRspn><Hdr><MsgFctn>AUTP</MsgFctn><PrtcolVrsn>1</PrtcolVrsn><XchgId>7</XchgId><CreDtTm>2023-11-14T22:13:20Z</CreDtTm><InitgPty><Id>T1</Id></InitgPty><RcptPty><Id>ACQ1</Id></RcptPty></Hdr><AuthstnRspn><Rspn>DECL</Rspn><AuthstnCd>A0B1C2</AuthstnCd></AuthstnRspn></AccptrAuthstnRspn></Document>",
+        ),
+        (
+            "caaa.003",
+            "<Document xmlns=\"urn:x-cap20:1:caaa.003\"><AccptrCmpltnAdvc><Hdr><MsgFctn>CMPV</MsgFctn><PrtcolVrsn>1</PrtcolVrsn><XchgId>7</XchgId><CreDtTm>2023-11-14T22:13:20Z</CreDtTm><InitgPty><Id>T1</Id></InitgPty><RcptPty><Id>ACQ1</Id></RcptPty></Hdr><CmpltnAdvc><Tx><Void><TxRef>2</TxRef></Void></Tx></CmpltnAdvc></AccptrCmpltnAdvc></Document>",
+        ),
+        (
+            "caaa.004",
+            "<Document xmlns=\"urn:x-cap20:1:caaa.004\"><AccptrCmpltnAdvcRspn><Hdr><MsgFctn>CMPK</MsgFctn><PrtcolVrsn>1</PrtcolVrsn><XchgId>7</XchgId><CreDtTm>2023-11-14T22:13:20Z</CreDtTm><InitgPty><Id>T1</Id></InitgPty><RcptPty><Id>ACQ1</Id></RcptPty></Hdr><CmpltnAdvcRspn><Rspn>APPR</Rspn></CmpltnAdvcRspn></AccptrCmpltnAdvcRspn></Document>",
+        ),
+        (
+            "caaa.005",
+            "<Document xmlns=\"urn:x-cap20:1:caaa.005\"><AccptrCxlReq><Hdr><MsgFctn>CCAQ</MsgFctn><PrtcolVrsn>1</PrtcolVrsn><XchgId>7</XchgId><CreDtTm>2023-11-14T22:13:20Z</CreDtTm><InitgPty><Id>T1</Id></InitgPty><RcptPty><Id>ACQ1</Id></RcptPty></Hdr><CxlReq><TtlAmt>9999999999.99</TtlAmt></CxlReq></AccptrCxlReq></Document>",
+        ),
+        (
+            "caaa.006",
+            "<Document xmlns=\"urn:x-cap20:1:caaa.006\"><AccptrCxlRspn><Hdr><MsgFctn>CCAP</MsgFctn><PrtcolVrsn>1</PrtcolVrsn><XchgId>7</XchgId><CreDtTm>2023-11-14T22:13:20Z</CreDtTm><InitgPty><Id>T1</Id></InitgPty><RcptPty><Id>ACQ1</Id></RcptPty></Hdr><CxlRspn><Rspn>PART</Rspn></CxlRspn></AccptrCxlRspn></Document>",
+        ),
+        (
+            "caaa.007",
+            "<Document xmlns=\"urn:x-cap20:1:caaa.007\"><AccptrCxlAdvc><Hdr><MsgFctn>CCAV</MsgFctn><PrtcolVrsn>1</PrtcolVrsn><XchgId>7</XchgId><CreDtTm>2023-11-14T22:13:20Z</CreDtTm><InitgPty><Id>T1</Id></InitgPty><RcptPty><Id>ACQ1</Id></RcptPty></Hdr><CxlAdvc><TxRef>1</TxRef><TtlAmt>12.50</TtlAmt></CxlAdvc></AccptrCxlAdvc></Document>",
+        ),
+        (
+            "caaa.008",
+            "<Document xmlns=\"urn:x-cap20:1:caaa.008\"><AccptrCxlAdvcRspn><Hdr><MsgFctn>CCAK</MsgFctn><PrtcolVrsn>1</PrtcolVrsn><XchgId>7</XchgId><CreDtTm>2023-11-14T22:13:20Z</CreDtTm><InitgPty><Id>T1</Id></InitgPty><RcptPty><Id>ACQ1</Id></RcptPty></Hdr><CxlAdvcRspn><Rspn>TECH</Rspn></CxlAdvcRspn></AccptrCxlAdvcRspn></Document>",
+        ),
+        (
+            "caaa.009",
+            "<Document xmlns=\"urn:x-cap20:1:caaa.009\"><AccptrRcncltnReq><Hdr><MsgFctn>RCLQ</MsgFctn><PrtcolVrsn>1</PrtcolVrsn><XchgId>7</XchgId><ReTrnsmssnCntr>0</ReTrnsmssnCntr><CreDtTm>2023-11-14T22:13:20Z</CreDtTm><InitgPty><Id>T1</Id></InitgPty><RcptPty><Id>ACQ1</Id></RcptPty></Hdr><RcncltnReq><Prd>1</Prd><Ttls><SaleNb>1</SaleNb><SaleAmt>12.50</SaleAmt><CxlNb>0</CxlNb><CxlAmt>0.00</CxlAmt></Ttls></RcncltnReq></AccptrRcncltnReq></Document>",
+        ),
+        (
+            "caaa.010",
+            "<Document xmlns=\"urn:x-cap20:1:caaa.010\"><AccptrRcncltnRspn><Hdr><MsgFctn>RCLP</MsgFctn><PrtcolVrsn>1</PrtcolVrsn><XchgId>7</XchgId><CreDtTm>2023-11-14T22:13:20Z</CreDtTm><InitgPty><Id>T1</Id></InitgPty><RcptPty><Id>ACQ1</Id></RcptPty></Hdr><RcncltnRspn><Rspn>APPR</Rspn><Prd>1</Prd><Ttls><SaleNb>1</SaleNb><SaleAmt>12.50</SaleAmt><CxlNb>0</CxlNb><CxlAmt>0.00</CxlAmt></Ttls></RcncltnRspn></AccptrRcncltnRspn></Document>",
+        ),
+        (
+            "caaa.011",
+            "<Document xmlns=\"urn:x-cap20:1:caaa.011\"><AccptrBtchTrf><Hdr><MsgFctn>BTCQ</MsgFctn><PrtcolVrsn>1</PrtcolVrsn><XchgId>7</XchgId><CreDtTm>2023-11-14T22:13:20Z</CreDtTm><InitgPty><Id>T1</Id></InitgPty><RcptPty><Id>ACQ1</Id></RcptPty></Hdr><BtchTrf><Itm><Sale><TxRef>1</TxRef><TtlAmt>12.50</TtlAmt><PAN>4000001234567899</PAN><AuthstnCd>OFFLIN</AuthstnCd></Sale></Itm><Itm><Void><TxRef>2</TxRef></Void></Itm><Itm><Cxl><TxRef>1</TxRef><TtlAmt>12.50</TtlAmt></Cxl></Itm><Itm><Cls><Prd>1</Prd><Ttls><SaleNb>1</SaleNb><SaleAmt>12.50</SaleAmt><CxlNb>0</CxlNb><CxlAmt>0.00</CxlAmt></Ttls></Cls></Itm></BtchTrf></AccptrBtchTrf></Document>",
+        ),
+        (
+            "caaa.012",
+            "<Document xmlns=\"urn:x-cap20:1:caaa.012\"><AccptrBtchTrfRspn><Hdr><MsgFctn>BTCP</MsgFctn><PrtcolVrsn>1</PrtcolVrsn><XchgId>7</XchgId><CreDtTm>2023-11-14T22:13:20Z</CreDtTm><InitgPty><Id>T1</Id></InitgPty><RcptPty><Id>ACQ1</Id></RcptPty></Hdr><BtchTrfRspn><Rspn>APPR</Rspn><LastItm>4</LastItm></BtchTrfRspn></AccptrBtchTrfRspn></Document>",
+        ),
+        (
+            "caaa.013",
+            "<Document xmlns=\"urn:x-cap20:1:caaa.013\"><AccptrDgnstcReq><Hdr><MsgFctn>DGNQ</MsgFctn><PrtcolVrsn>1</PrtcolVrsn><XchgId>7</XchgId><CreDtTm>2023-11-14T22:13:20Z</CreDtTm><InitgPty><Id>T1</Id></InitgPty><RcptPty><Id>ACQ1</Id></RcptPty></Hdr><DgnstcReq><LastItm>0</LastItm></DgnstcReq></AccptrDgnstcReq></Document>",
+        ),
+        (
+            "caaa.014",
+            "<Document xmlns=\"urn:x-cap20:1:caaa.014\"><AccptrDgnstcRspn><Hdr><MsgFctn>DGNP</MsgFctn><PrtcolVrsn>1</PrtcolVrsn><XchgId>7</XchgId><CreDtTm>2023-11-14T22:13:20Z</CreDtTm><InitgPty><Id>T1</Id></InitgPty><RcptPty><Id>ACQ1</Id></RcptPty></Hdr><DgnstcRspn><Rspn>APPR</Rspn><LastItm>9999999999</LastItm></DgnstcRspn></AccptrDgnstcRspn></Document>",
+        ),
+        (
+            "caaa.015",
+            "<Document xmlns=\"urn:x-cap20:1:caaa.015\"><AccptrRjctn><Hdr><MsgFctn>RJCT</MsgFctn><PrtcolVrsn>1</PrtcolVrsn><XchgId>7</XchgId><CreDtTm>2023-11-14T22:13:20Z</CreDtTm><InitgPty><Id>T1</Id></InitgPty><RcptPty><Id>ACQ1</Id></RcptPty></Hdr><Rjct><RjctRsn>UNPR</RjctRsn><XpctdItm>5</XpctdItm></Rjct></AccptrRjctn></Document>",
+        ),
+        (
+            "catm.001",
+            "<Document xmlns=\"urn:x-cap20:1:catm.001\"><StsRpt><Hdr><PrtcolVrsn>1</PrtcolVrsn><XchgId>7</XchgId><ReTrnsmssnCntr>0</ReTrnsmssnCntr><CreDtTm>2023-11-14T22:13:20Z</CreDtTm><InitgPty><Id>T1</Id></InitgPty><RcptPty><Id>ACQ1</Id></RcptPty></Hdr><Sts><DataSetReqrd>AQPR</DataSetReqrd><VrsnInForce>0</VrsnInForce><StgdVrsn>0</StgdVrsn><StgdParts>0</StgdParts></Sts></StsRpt></Document>",
+        ),
+        (
+            "catm.002",
+            "<Document xmlns=\"urn:x-cap20:1:catm.002\"><MgmtPlanRplcmnt><Hdr><PrtcolVrsn>1</PrtcolVrsn><XchgId>7</XchgId><CreDtTm>2023-11-14T22:13:20Z</CreDtTm><InitgPty><Id>T1</Id></InitgPty><RcptPty><Id>ACQ1</Id></RcptPty></Hdr><MgmtPlan><Actn><Tp>DWNL</Tp><DataSetTp>STRP</DataSetTp><StartDtTm>2023-11-14T22:13:20.500+01:00</StartDtTm><PrdMin>60</PrdMin></Actn></MgmtPlan></MgmtPlanRplcmnt></Document>",
+        ),
+        (
+            "catm.003",
+            "<Document xmlns=\"urn:x-cap20:1:catm.003\"><AccptrCfgtnUpd><Hdr><PrtcolVrsn>1</PrtcolVrsn><XchgId>7</XchgId><CreDtTm>2023-11-14T22:13:20Z</CreDtTm><InitgPty><Id>T1</Id></InitgPty><RcptPty><Id>ACQ1</Id></RcptPty></Hdr><AccptrCfgtn><Vrsn>1</Vrsn><Part>1</Part><Parts>1</Parts><Row><Key>FLOOR</Key><Val>20.00</Val></Row></AccptrCfgtn></AccptrCfgtnUpd></Document>",
+        ),
+        (
+            "catm.004",
+            "<Document xmlns=\"urn:x-cap20:1:catm.004\"><TermnlMgmtRjctn><Hdr><PrtcolVrsn>1</PrtcolVrsn><XchgId>7</XchgId><CreDtTm>2023-11-14T22:13:20Z</CreDtTm><InitgPty><Id>T1</Id></InitgPty><RcptPty><Id>ACQ1</Id></RcptPty></Hdr><Rjct><RjctRsn>PARS</RjctRsn><FltPlc>0</FltPlc></Rjct></TermnlMgmtRjctn></Document>",
+        ),
+    ] {
+        let (shown, written) = shown(rt.alloc(), text.as_bytes()).ok_or("no document")?;
+        assert_eq!(rt; shown, number);
+        assert_eq!(rt; written.as_slice(), text.as_bytes());
+    }
+    Ok(())
+}
+
+#[test]
+fn written_canonically(rt: HostRuntime) -> Result<(), Fail> {
+    let odd =
+        "<?xml version=\"1.0\" encoding=\"UTF-8\" standalone=\"yes\"?>\n<Document xmlns=\"urn:x-cap20:1:caaa.003\">\n  <AccptrCmpltnAdvc>\n  <Hdr>\n  <MsgFctn>CMPV</MsgFctn>\n  <PrtcolVrsn>1</PrtcolVrsn>\n  <XchgId>001</XchgId>\n  <CreDtTm>2023-11-14T22:13:20Z</CreDtTm>\n  <InitgPty>\n  <Id>T1</Id>\n  </InitgPty>\n  <RcptPty>\n  <Id>ACQ1</Id>\n  </RcptPty>\n  </Hdr>\n  <CmpltnAdvc>\n  <Tx>\n  <Sale>\n  <TxRef>1</TxRef>\n  <TtlAmt>12.5</TtlAmt>\n  <PAN>4000001234567899</PAN>\n  <AuthstnCd>OFFLIN</AuthstnCd>\n  </Sale>\n  </Tx>\n  </CmpltnAdvc>\n  </AccptrCmpltnAdvc>\n  </Document>\n";
+    let (number, written) = shown(rt.alloc(), odd.as_bytes()).ok_or("no document")?;
+    assert_eq!(rt; number, "caaa.003");
+    assert_eq!(rt; written.as_slice(), X.as_bytes());
     Ok(())
 }

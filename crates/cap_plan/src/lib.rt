@@ -1,0 +1,10 @@
+//! When a planned action is due: the moments of its plan, in seconds since 1970.
+#![tactic(auto)]
+
+mod moment;
+mod planned;
+#[cfg(test)]
+mod tests;
+
+pub use moment::moment_of;
+pub use planned::{due, next_due};

@@ -1,5 +1,5 @@
 // Frames out of a stream.
-ghost use Rattle.std.specs.Prelude.{◌≡◌, ◌≤◌, ◌<◌, ◌+◌, ◌-◌, ◌⊎◌, ◌↔◌, ℕ, min, max, List, [], ◌++◌, length, take, IfOk, IfErr, IfSome, IsErr, IsSome, MatchOption, ⊤};
+ghost use Rattle.std.specs.Prelude.{◌≡◌, ◌≤◌, ◌<◌, ◌+◌, ◌-◌, ◌⊎◌, ◌↔◌, ℕ, min, max, List, [], ◌++◌, length, take, IfOk, IfErr, IfSome, IsErr, IsOk, IsSome, MatchOption, ⊤};
 ghost use Rattle.std.specs.Borrow.{sem, follows_so};
 ghost use mathlib.Core.Option.{none};
 ghost use Rattle.cap_frame.specs.Frame.{IsBody, IsWhole, BeginsBad, frame_of, stated_length, held_of};
@@ -84,6 +84,7 @@ impl Framer {
         ensures bad { IsErr result ↔ BeginsBad (self.old ++ bytes.now) }
         ensures stated { IfErr result (λ error. error.0 ≡ stated_length self.new) }
         ensures from_then_on { IsErr result → BeginsBad self.new }
+        ensures good { IsOk result → BeginsBad self.new → ⊥ }
         ensures begun { (n : ℕ) × (n ≤ length bytes.now) × (self.new ≡ self.old ++ take n bytes.now) }
     {
         let head = fill(&mut self.buffer, self.len, 4, bytes);

@@ -9,3 +9,6 @@ mod request;
 mod status;
 
 pub use plain::{Answer, answer_fault, answer_message};
+
+#[cfg(test)]
+mod tests;

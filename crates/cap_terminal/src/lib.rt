@@ -1,8 +1,14 @@
 //! The terminal.
 #![tactic(auto)]
 
+mod change;
+mod changing;
+mod follow;
 mod handled;
+mod index;
 mod part;
+mod sale_row;
+mod sets;
 mod taken;
 
 pub use handled::{AuthResponse, Handled, TermFault};

@@ -1,0 +1,10 @@
+//! The steps of a sale as tokens that must be spent.
+#![tactic(auto)]
+
+mod response;
+#[cfg(test)]
+mod tests;
+mod tokens;
+
+pub use response::AuthResponse;
+pub use tokens::{AboveFloor, Approved, AuthRefused, Begun, Receipt};

@@ -1,6 +1,6 @@
 use crate::run::run;
 use crate::status::Status;
-use cap_base::{MemSink, MemSource};
+use cap_base::{MemSink, MemSource, Source};
 use std::alloc::{AllocError, Global};
 use std::test::Fail;
 
@@ -91,31 +91,42 @@ const UNFIT: [(&str, u64); 14] = [
     ("host ACQ1 limit 1 block none poll 0\npush T1\n", 2),
 ];
 
+/// How a run ended, and what it wrote.
 #[derive(Drop)]
-struct Outcome {
-    status: Status,
-    written: Vec<u8>,
+pub struct Outcome {
+    pub status: Status,
+    pub written: Vec<u8>,
 }
 
-// The status and the text of a run over these bytes, with these calls failing.
-fn ran(
+/// The outcome of a run on a source, with these puts failing.
+pub fn outcome_of<S: Source>(
     alloc: Global,
     command: &[&str],
-    text: Vec<u8>,
-    takes: &[u64],
+    input: &mut S,
     puts: &[u64],
 ) -> Result<Outcome, AllocError> {
     let mut words = Vec::new(alloc);
     for word in command {
         words.push(String::from_str(alloc, word)?)?;
     }
-    let mut input = MemSource::new(alloc, text);
-    let _ = input.fail_at(takes);
     let mut out = MemSink::new(alloc);
     let _ = out.fail_at(puts);
-    let status = run(alloc, &words, &mut input, &mut out);
+    let status = run(alloc, &words, input, &mut out);
     let written = out.bytes().to_vec(alloc)?;
     Ok(Outcome { status, written })
+}
+
+/// The outcome of a run over these bytes, with these calls failing.
+pub fn ran(
+    alloc: Global,
+    command: &[&str],
+    text: Vec<u8>,
+    takes: &[u64],
+    puts: &[u64],
+) -> Result<Outcome, AllocError> {
+    let mut input = MemSource::new(alloc, text);
+    let _ = input.fail_at(takes);
+    outcome_of(alloc, command, &mut input, puts)
 }
 
 fn joined(alloc: Global, front: &str, back: &str) -> Result<Vec<u8>, AllocError> {

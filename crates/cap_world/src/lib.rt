@@ -13,7 +13,7 @@ mod world;
 
 pub use lines::first_line;
 pub use reader::read;
-pub use report::report_of;
+pub use report::{reason_letters, report_of};
 pub use schedule::{Action, Draft, HostLine, Numbered, Schedule, ScheduleFault, TerminalLine};
 pub use session::{ReplayFault, replay};
 pub use world::{Advice, HostEntry, Outcome, Reply, TermEntry, World};

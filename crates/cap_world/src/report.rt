@@ -10,8 +10,8 @@ use cap_base::{Ident, Item, Reason};
 use std::alloc::{AllocError, Global};
 use std::fmt;
 
-// The letters of a reason.
-fn letters(reason: Reason) -> &'static str
+/// The letters of a reason.
+pub fn reason_letters(reason: Reason) -> &'static str
     ensures { result.now ≡ reason_text reason }
 {
     match reason {
@@ -36,7 +36,7 @@ impl fmt::Display for Reply {
     fn fmt<W: fmt::Write>(&self, f: &mut fmt::Formatter<W>) -> fmt::Result {
         match self {
             Reply::Approved(_) => write!(f, "caaa.004"),
-            Reply::Rejected { reason, .. } => write!(f, "caaa.015 {}", letters(*reason)),
+            Reply::Rejected { reason, .. } => write!(f, "caaa.015 {}", reason_letters(*reason)),
         }
     }
 }
@@ -60,7 +60,7 @@ impl fmt::Display for Outcome {
             Outcome::Stale { number, acked } => write!(f, "stale {number} {acked}"),
             Outcome::Beyond { number, len } => write!(f, "beyond {number} {len}"),
             Outcome::NotAwaited => write!(f, "not awaited"),
-            Outcome::Rejected(reason) => write!(f, "rejected {}", letters(*reason)),
+            Outcome::Rejected(reason) => write!(f, "rejected {}", reason_letters(*reason)),
         }
     }
 }

@@ -3,6 +3,7 @@
 
 mod arming;
 mod disk;
+mod file;
 mod laying;
 mod memory;
 mod recorded;
@@ -12,5 +13,6 @@ mod tests;
 
 pub use arming::{Counted, Fill};
 pub use disk::Disk;
+pub use file::FileDisk;
 pub use memory::MemoryDisk;
 pub use recorded::Call;

@@ -1,5 +1,5 @@
 -- Structures by their children: leaves and structures at places of a table, and what stands at a place.
-use Rattle.std.specs.Prelude.{ℕ, suc, ◌==◌, if◌then◌else◌, List, [], ◌∷◌, Option, Some, None}
+use Rattle.std.specs.Prelude.{ℕ, suc, ◌==◌, if◌then◌else◌, List, [], ◌∷◌, Option, Some, None, option_and_then}
 use Rattle.cap_leaf.specs.Date.{DateParts}
 use Rattle.cap_leaf.specs.declared.leaf.Leaf.{Leaf}
 use Rattle.cap_leaf.specs.declared.leaf.Leaf.TheVariants.{Num, Amount, Sum, Ident, Account, Code6, DateTime, Code}
@@ -28,6 +28,11 @@ maybe_num at (Some n) rest = child at (value (Num n)) rest
 abbrev pub repeated : ℕ → List Data → Children
 repeated at [] = none
 repeated at (d ∷ ds) = child at d (repeated at ds)
+
+-- the children of a structure; a leaf has none
+abbrev pub inside : Data → Children
+inside (value x) = none
+inside (branch cs) = cs
 
 -- the first child at a place
 abbrev pub child_among : Children → ℕ → Option Data
@@ -103,3 +108,8 @@ date_in d at = as_date (leaf_in d at)
 
 abbrev pub code_in : Data → ℕ → Option ℕ
 code_in d at = as_code (leaf_in d at)
+
+-- what all children are read as, where each of them is read
+abbrev pub all_among : {A : Type 0} → (Data → Option A) → Children → Option (List A)
+all_among read none = Some []
+all_among read (child at d rest) = option_and_then (λ x. option_and_then (λ xs. Some (x ∷ xs)) (all_among read rest)) (read d)

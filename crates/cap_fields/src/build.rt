@@ -1,5 +1,5 @@
 ghost use Rattle.std.specs.Prelude.{◌≡◌, ◌<◌, IfOk, length};
-ghost use Rattle.cap_leaf.specs.Trees.{data_of, children_view, branch, none, child};
+ghost use Rattle.cap_leaf.specs.Trees.{data_of, children_view, value, branch, none, child};
 ghost use Rattle.cap_fields.specs.Fields.{numbered, record_of, followed_by};
 
 use cap_base::Memory;
@@ -29,6 +29,13 @@ pub fn with(children: Children, at: u8, tree: Tree) -> Result<Children, Memory>
     let mut children = children;
     children.push(Child { at, tree })?;
     Ok(children)
+}
+
+/// A leaf alone.
+pub fn leaf_tree(leaf: Leaf) -> Tree
+    ensures { data_of result ≡ value leaf }
+{
+    Tree::Leaf(leaf)
 }
 
 /// A structure of these children.

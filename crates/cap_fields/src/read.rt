@@ -1,7 +1,7 @@
 ghost use Rattle.std.specs.Prelude.{◌≡◌, MatchOption, None, Some};
 ghost use Rattle.std.specs.Option.{option_copied};
 ghost use Rattle.cap_leaf.specs.Trees.{data_of, children_view};
-ghost use Rattle.cap_fields.specs.Fields.{child_among, child_in, as_leaf, leaf_in, num_in, amount_in, sum_in, ident_in, account_in, code6_in, date_in, code_in};
+ghost use Rattle.cap_fields.specs.Fields.{inside, child_among, child_in, as_leaf, leaf_in, num_in, amount_in, sum_in, ident_in, account_in, code6_in, date_in, code_in};
 
 use cap_base::{Account, Amount, Code6, Ident};
 use cap_leaf::{Child, DateTime, Leaf, Tree};
@@ -24,6 +24,16 @@ pub fn tree_at(tree: &Tree, at: u8) -> Option<&Tree>
     match tree {
         Tree::Leaf(_) => None,
         Tree::Branch(children) => tree_among(children.as_slice(), at),
+    }
+}
+
+/// The children of a structure. A leaf has none.
+pub fn children_of(tree: &Tree) -> &[Child]
+    ensures { children_view result.now ≡ inside (data_of tree.now) }
+{
+    match tree {
+        Tree::Leaf(_) => &[],
+        Tree::Branch(children) => children.as_slice(),
     }
 }
 

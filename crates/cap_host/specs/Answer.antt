@@ -22,7 +22,7 @@ use Rattle.cap_entries.specs.Settings.{HostSettings}
 use Rattle.cap_entries.specs.declared.host.HostEntry.{HostEntry}
 use Rattle.cap_entries.specs.declared.host.HostEntry.TheVariants.{Took}
 use Rattle.cap_entries.specs.Log.{log, published, setup_of}
-use Rattle.cap_host.specs.Manager.{answer_status}
+use Rattle.cap_manager.specs.Manager.{answer_status}
 
 -- what is added, and the body of the reply, or None where the host is silent
 pub record Answered : Type 0 where

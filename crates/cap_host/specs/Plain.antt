@@ -1,7 +1,6 @@
 -- What the plain call of a host stands on.
-use Rattle.std.specs.Prelude.{◌≡◌, ℕ, ◌+◌, ◌-◌, ◌==◌, if◌then◌else◌, Bool, true, List, [], ◌∷◌, ◌++◌, length, map, Option, Some, None, slice_get}
+use Rattle.std.specs.Prelude.{ℕ, ◌+◌, ◌-◌, ◌==◌, if◌then◌else◌, Bool, true, List, [], ◌∷◌, ◌++◌, length, map, Some}
 use Rattle.std.specs.List.{list_any}
-use Rattle.cap_base.specs.declared.parameters.Row.{Row}
 use Rattle.cap_base.specs.declared.item.Item.{Item}
 use Rattle.cap_base.specs.declared.item.Item.TheVariants.{Sale, Void, Cancel, Close}
 use Rattle.cap_base.specs.declared.codes.Reason.TheVariants.{Dpmg}
@@ -11,30 +10,8 @@ use Rattle.cap_base.specs.Fits.{fits}
 use Rattle.cap_batch_msgs.specs.declared.body.BatchBody.TheVariants.{BatchAnswer}
 use Rattle.cap_msgs.specs.declared.message.Body.TheVariants.{Batch as Of_batch}
 use Rattle.cap_entries.specs.declared.host.HostEntry.{HostEntry}
-use Rattle.cap_entries.specs.declared.host.HostEntry.TheVariants.{Setup, Took, Published}
-use Rattle.std.proofs.Common.{refl, ap, ◌∙◌, arith}
-use Rattle.cap_entries.specs.Log.{published}
+use Rattle.cap_entries.specs.declared.host.HostEntry.TheVariants.{Took}
 use Rattle.cap_host.specs.Answer.{Answered, answers, rejected, rejected_expecting, approved_if, answer_of_item, item_at, same_item, taken_items, standing}
-
--- the set that was published last, or the first argument where there is none
-abbrev pub last_set : Option (List Row) → List HostEntry → Option (List Row)
-last_set last [] = last
-last_set last (Published version rows ∷ entries) = last_set (Some rows) entries
-last_set last (_ ∷ entries) = last_set last entries
-
-last_of : (last : List Row) (entries : List HostEntry) → last_set (Some last) entries ≡ slice_get (last ∷ published entries) (length (published entries))
-last_of last [] = refl
-last_of last (Published version rows ∷ entries) = last_of rows entries
-last_of last (Setup settings ∷ entries) = last_of last entries
-last_of last (Took place item ∷ entries) = last_of last entries
-
-pub last_set_is : (entries : List HostEntry) → last_set None entries ≡ slice_get (published entries) (length (published entries) - 1)
-last_set_is [] = refl
-last_set_is (Published version rows ∷ entries) =
-    let same : length (published entries) ≡ length (rows ∷ published entries) - 1 = omega arith in
-    last_of rows entries ∙ ap (λ n. slice_get (rows ∷ published entries) n) same
-last_set_is (Setup settings ∷ entries) = last_set_is entries
-last_set_is (Took place item ∷ entries) = last_set_is entries
 
 -- a closing stands in the log
 abbrev pub is_closed_there : List Item → Item → Bool

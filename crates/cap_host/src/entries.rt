@@ -1,8 +1,7 @@
-ghost use Rattle.std.specs.Prelude.{◌≡◌, ◌<◌, ◌++◌, IfOk, IfSome, None, length, slice_get, ◌-◌};
+ghost use Rattle.std.specs.Prelude.{◌≡◌, ◌<◌, ◌++◌, IfOk, IfSome, length};
 ghost use Rattle.cap_entries.specs.Log.{log, published, setup_of};
 ghost use Rattle.cap_entries.specs.HostAllowed.{LegalHost};
 ghost use Rattle.cap_host.specs.Received.{place_from};
-ghost use Rattle.cap_host.specs.Plain.{last_set};
 
 use cap_base::{Ident, Item, Memory};
 use cap_entries::{HostEntry, HostSetup, RowSet};
@@ -23,36 +22,17 @@ pub(crate) fn log_of(alloc: Global, entries: &[HostEntry], place: u8) -> Result<
     Ok(taken)
 }
 
-// How many sets were published.
-pub(crate) fn count_sets(entries: &[HostEntry]) -> usize
-    ensures { result ≡ length (published entries.now) }
+// The sets that were published, oldest first.
+pub(crate) fn sets_of(alloc: Global, entries: &[HostEntry]) -> Result<Vec<RowSet>, Memory>
+    ensures { IfOk result (λ v. v.items ≡ published entries.now) }
 {
-    let mut count = 0;
-    for entry in entries {
-        if let HostEntry::Published { .. } = entry {
-            count += 1;
-        }
-    }
-    count
-}
-
-fn last_published(entries: &[HostEntry]) -> Result<Option<RowSet>, Memory>
-    ensures { IfOk result (λ set. set ≡ last_set None entries.now) }
-{
-    let mut last = None;
+    let mut sets = Vec::new(alloc);
     for entry in entries {
         if let HostEntry::Published { rows, .. } = entry {
-            last = Some(rows.clone()?);
+            sets.push(rows.clone()?)?;
         }
     }
-    Ok(last)
-}
-
-// The newest set, if there is one.
-pub(crate) fn newest(entries: &[HostEntry]) -> Result<Option<RowSet>, Memory>
-    ensures { IfOk result (λ set. set ≡ slice_get (published entries.now) (length (published entries.now) - 1)) }
-{
-    last_published(entries)
+    Ok(sets)
 }
 
 // How the host was set up.

@@ -9,7 +9,7 @@ ghost use Rattle.cap_entries.specs.HostAllowed.{LegalHost};
 ghost use Rattle.cap_entries.specs.Log.{log};
 ghost use Rattle.cap_msgs.specs.Received.{Read, Unread};
 ghost use Rattle.cap_msgs.specs.Report.{report_of, is_from_host, is_unanswered, is_management, ended_item};
-ghost use Rattle.cap_host.specs.Answer.{silent, answers, answer_of, answer_data, answer_advice, answer_batch, answer_cancel_request};
+ghost use Rattle.cap_host.specs.Answer.{silent, answers, answer_of, answer_advice, answer_batch, answer_cancel_request};
 ghost use Rattle.cap_host.specs.Received.{rejection, rejects, answer_received, answer_from};
 
 use crate::advice::{advise, advise_many};
@@ -265,25 +265,6 @@ fn answer_rows(
     }
 }
 
-fn given(alloc: Global, body: Option<MgmtBody>) -> Answer
-    ensures { result ≡ answer_data body }
-{
-    match body {
-        Some(body) => replies(alloc, Body::Management(body)),
-        None => {
-            let refused = Refused {
-                reason: Reason::Unpr,
-                expected: None,
-                place: None,
-            };
-            replies(
-                alloc,
-                Body::Management(MgmtBody::ManagementRejection(refused)),
-            )
-        }
-    }
-}
-
 // A message of terminal management.
 fn answer_management(
     alloc: Global,
@@ -303,8 +284,7 @@ fn answer_management(
             parts,
         } => {
             let setup = settings(entries);
-            let body = give(alloc, entries, setup, *wanted, *in_force, *staged, *parts)?;
-            Ok(given(alloc, body))
+            give(alloc, entries, setup, *wanted, *in_force, *staged, *parts)
         }
         _ => Ok(quiet(alloc)),
     }

@@ -28,7 +28,7 @@ use Rattle.cap_entries.specs.Items.{items as items_of}
 use Rattle.cap_entries.specs.Acked.{acked}
 use Rattle.cap_entries.specs.Allowed.{part_allowed}
 use Rattle.cap_entries.specs.Log.{published, setup_of}
-use Rattle.cap_host.specs.Manager.{answer_status}
+use Rattle.cap_manager.specs.Manager.{answer_status}
 use Rattle.cap_host.specs.Answer.{Answered, answers, is_approved, answer_request, answer_data, answer_report}
 use Rattle.cap_host.specs.Received.{answer_received, number_of, Replies}
 use Rattle.cap_terminal.specs.Takes.{Taken, is_awaited, take_acknowledgement, take_reply, is_for_us, takes}

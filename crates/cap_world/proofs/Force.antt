@@ -16,7 +16,7 @@ use Rattle.cap_entries.specs.Allowed.{part_allowed, allowed, all_allowed}
 use Rattle.cap_entries.specs.InForce.{version_in_force_from, version_in_force, rows_of_version, rows_in_force, staged_from, continues, staged_version}
 use Rattle.cap_entries.specs.Log.{published}
 use Rattle.cap_entries.specs.AllowedLaws.{along, allowed_is}
-use Rattle.cap_host.specs.Manager.{part_rows, parts_of}
+use Rattle.cap_manager.specs.Manager.{part_rows, parts_of}
 use Rattle.cap_terminal.specs.Takes.{tells}
 use Rattle.cap_world.proofs.Named.{all_front, all_back}
 use Rattle.cap_world.specs.SetsInForce.{SetIsPublished}

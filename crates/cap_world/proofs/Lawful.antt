@@ -26,7 +26,7 @@ use Rattle.cap_entries.specs.Fronts.{IsPrefixOf, prefix_refl, prefix_trans, pref
 use Rattle.cap_entries.specs.ItemsLaws.{items_grow}
 use Rattle.cap_entries.specs.LogLaws.{log_grow, log_kept}
 use Rattle.cap_entries.specs.AllowedLaws.{all_allowed-append, all_allowed_front}
-use Rattle.cap_host.specs.Manager.{answer_status}
+use Rattle.cap_manager.specs.Manager.{answer_status}
 use Rattle.cap_host.specs.Answer.{Answered, answers, is_approved, answer_request, answer_data, answer_report, answer_of}
 use Rattle.cap_host.specs.Received.{answer_received, Replies}
 use Rattle.cap_terminal.specs.declared.handled.AuthResponse.{AuthResponse}

@@ -1,4 +1,4 @@
--- What a host answers to a status report: a part of the newest parameter set, or the plan.
+-- What a status report gets: a part of the newest parameter set, or the plan.
 use Rattle.std.specs.Prelude.{ℕ, ◌+◌, ◌-◌, ◌*◌, ◌/◌, ◌&&◌, nat_le, nat_lt, ◌==◌, if◌then◌else◌, List, [], ◌∷◌, length, take, drop, Option, Some, None, slice_get}
 use Rattle.cap_base.specs.declared.parameters.Row.{Row}
 use Rattle.cap_base.specs.declared.parameters.ConfigPart.{ConfigPart}

@@ -1,0 +1,142 @@
+-- What calls say that are made one after another.
+use Rattle.std.proofs.Common.{◌≡◌, ◌⊎◌, ℕ, ◌+◌, ◌≤◌, false, List, [], ◌++◌, Option, Some, None, refl, sym, ◌∙◌, ap, subst, inl, inr, ⊎_elim, arith, append-nil}
+use Rattle.std.specs.Prelude.{Result, Ok, Err, IsOk, OnOk, OnErr, IsErrOf, IsTrue}
+use Rattle.cap_base.specs.Causes.{Rose}
+use Rattle.std.specs.declared.clone.Clone.{Ghosts as CloneGhosts}
+use Rattle.cap_disk.specs.Disk.{Counts, LeavesOnly, StaysCounted}
+use Rattle.cap_journal.specs.declared.record.Record.{Ghosts as RecordGhosts}
+use Rattle.cap_journal.specs.declared.journal.Journal.{Ghosts}
+use Rattle.cap_journal.specs.File.{HasEither}
+use Rattle.cap_journal.specs.Seen.{CountsTrying, IsTrying}
+use Rattle.cap_journal.specs.Told.{IsQuiet}
+use Rattle.cap_host_ledger.specs.declared.fault.HostFault.{HostFault}
+use Rattle.cap_host_ledger.specs.declared.fault.HostFault.TheVariants.{Disk, Memory}
+use Rattle.cap_host_ledger.specs.declared.ledger.Ledger.{Ledger}
+use Rattle.cap_host_ledger.specs.Ledger.{calls_for, Stays, OnlyReads, Adds}
+
+-- a fault that rises after a call rises over it
+rose_later : (a b c : ℕ) → a ≤ b → Rose b c → Rose a c
+rose_later a b c le rose = omega (arith, le, rose)
+
+no_fault : {T : Type 0} (v : T) (fault : HostFault) → IsErrOf {E = HostFault} (Ok v) fault → ⊥
+no_fault v fault is = cc
+
+ok_from : {T : Type 0} (result : Result T HostFault) {P Q : Type 0} → (P → Q) → OnOk result P → OnOk result Q
+ok_from (Ok v) f p = f p
+ok_from (Err e) f p = tt
+
+err_from : {T : Type 0} (result : Result T HostFault) {P Q : Type 0} → (P → Q) → OnErr result P → OnErr result Q
+err_from (Ok v) f p = tt
+err_from (Err e) f p = f p
+
+-- what is counted over a call that isn't
+counted_then : (n : ℕ) (a b c : Option Counts) (ok disk memory would would' : Type 0) → StaysCounted a b → (would → would') → (would' → would) → IsTrying n b c ok disk memory would → IsTrying n a c ok disk memory would'
+counted_then n None b c ok disk memory would would' same to from trying = tt
+counted_then n (Some old) b c ok disk memory would would' same to from trying = λ few. told (subst (λ (k : Option Counts). IsTrying n k c ok disk memory would) same trying few)
+  where
+    told : CountsTrying n old c ok disk memory would → CountsTrying n old c ok disk memory would'
+    told t = record {
+      added = t.added;
+      stopped = λ is. (to (t.stopped is).0, (t.stopped is).1);
+      goes_on = λ w within. t.goes_on (from w) within;
+      other = t.other;
+    }
+
+-- images over a call that only reads
+images_then : {J : Type 0} (moment : J → ℕ) (left_since : J → ℕ → List ℕ → Type 0) (a b c : J) (before after Q : List ℕ → Type 0) → LeavesOnly moment left_since a b before → ((image : List ℕ) → after image → before image)
+    → LeavesOnly moment left_since b c (λ image. after image ⊎ Q image) → LeavesOnly moment left_since a c (λ image. before image ⊎ Q image)
+images_then moment left_since a b c before after Q first still then = record {
+  later = omega (arith, first.later, then.later);
+  each = λ image left. ⊎_elim (λ earlier. inl (first.each image earlier)) (λ now. sorted image now) (then.before (moment a) image first.later left);
+  before = λ t image le left. ⊎_elim (λ earlier. ⊎_elim (λ old. inl old) (λ now. inr (inl now)) (first.before t image le earlier)) (λ now. inr (sorted image now)) (then.before t image (omega (arith, le, first.later)) left);
+}
+  where
+    sorted : (image : List ℕ) → after image ⊎ Q image → before image ⊎ Q image
+    sorted image (inl now) = inl (still image now)
+    sorted image (inr added) = inr added
+
+reads_images : {J : Type 0} (moment : J → ℕ) (left_since : J → ℕ → List ℕ → Type 0) (a b c : J) (before after : List ℕ → Type 0) → LeavesOnly moment left_since a b before → ((image : List ℕ) → after image → before image)
+    → LeavesOnly moment left_since b c after → LeavesOnly moment left_since a c before
+reads_images moment left_since a b c before after first still then = record {
+  later = omega (arith, first.later, then.later);
+  each = λ image left. ⊎_elim (λ earlier. first.each image earlier) (λ now. still image now) (then.before (moment a) image first.later left);
+  before = λ t image le left. ⊎_elim (λ earlier. first.before t image le earlier) (λ now. inr (still image now)) (then.before t image (omega (arith, le, first.later)) left);
+}
+
+module _ {E J : Type 0} {r : RecordGhosts E} {c : CloneGhosts E} {g : Ghosts J E} where
+  -- a call after one that was answered, and added nothing
+  pub reads_then_stays : (old mid new : Ledger E J r c g) {S T : Type 0} (v : S) (result : Result T HostFault) → OnlyReads old mid (Ok v) → Stays mid new result → Stays old new result
+  reads_then_stays old mid new v result first then = record {
+    faults = omega (arith, first.stays.faults, then.faults);
+    disk = λ is. rose_later (g.faults old.journal) (g.faults mid.journal) (g.faults new.journal) first.stays.faults (then.disk is);
+    fails = then.fails;
+    still = λ no'. then.still no' ∙ first.stays.still (no_fault v Disk);
+    is_readable = then.is_readable ∙ first.stays.is_readable;
+    tells = then.tells ∙ first.stays.tells;
+    refused = err_from result (λ same. same ∙ first.entries) then.refused;
+  }
+
+  told_before : (old mid : Ledger E J r c g) {S : Type 0} (v : S) → OnlyReads old mid (Ok v) → IsTrue (g.tells old.journal) → IsTrue (g.tells mid.journal)
+  told_before old mid v first told = first.stays.tells ∙ told
+
+  pub reads_then_reads : (old mid new : Ledger E J r c g) {S T : Type 0} (v : S) (result : Result T HostFault) → OnlyReads old mid (Ok v) → OnlyReads mid new result → OnlyReads old new result
+  reads_then_reads old mid new v result first then = record {
+    stays = reads_then_stays old mid new v result first then.stays;
+    entries = then.entries ∙ first.entries;
+    never_failed = then.never_failed;
+    counts = counts_on (g.counts old.journal) (g.counts mid.journal) first.counts then.counts;
+    quiet = quiet_on (g.counts old.journal) (g.counts mid.journal) first.counts then.quiet;
+    images = λ told. reads_images g.moment g.left_since old.journal mid.journal new.journal (g.may_leave old.journal) (g.may_leave mid.journal) (first.images told) (first.leaves told) (then.images (told_before old mid v first told));
+    leaves = λ told image left. first.leaves told image (then.leaves (told_before old mid v first told) image left);
+  }
+    where
+      counts_on : (a b : Option Counts) → StaysCounted a b → StaysCounted b (g.counts new.journal) → StaysCounted a (g.counts new.journal)
+      counts_on None b same then' = tt
+      counts_on (Some k) b same then' = subst (λ (x : Option Counts). StaysCounted x (g.counts new.journal)) same then'
+
+      quiet_on : (a b : Option Counts) → StaysCounted a b → IsQuiet b (IsErrOf result Disk) → IsQuiet a (IsErrOf result Disk)
+      quiet_on None b same then' = tt
+      quiet_on (Some k) b same then' = subst (λ (x : Option Counts). IsQuiet x (IsErrOf result Disk)) same then'
+
+  pub reads_then_adds : (old mid new : Ledger E J r c g) {S T : Type 0} (v : S) (added : List E) (result : Result T HostFault) → OnlyReads old mid (Ok v) → Adds mid new added result → Adds old new added result
+  reads_then_adds old mid new v added result first then = record {
+    stays = reads_then_stays old mid new v result first then.stays;
+    grown = ok_from result (λ grown. grown ∙ ap (λ (l : List E). l ++ added) first.entries) then.grown;
+    failed = λ is. (sym same ∙ (then.failed is).0, (then.failed is).1);
+    refuses = ok_from result (λ none failed. none (same ∙ failed)) then.refuses;
+    counts =
+        counted_then (calls_for added) (g.counts old.journal) (g.counts mid.journal) (g.counts new.journal) _ _ _ _ _ first.counts
+        (λ w. (sym same ∙ w.0, w.1)) (λ w. (same ∙ w.0, w.1)) then.counts;
+    images = λ told. images_then g.moment g.left_since old.journal mid.journal new.journal (g.may_leave old.journal) (g.may_leave mid.journal) (HasEither r.reading (g.entries old.journal) (g.entries old.journal ++ added)) (first.images told) (first.leaves told) (subst (λ (l : List E). LeavesOnly g.moment g.left_since mid.journal new.journal (λ image. g.may_leave mid.journal image ⊎ HasEither r.reading l (l ++ added) image)) first.entries (then.images (told_before old mid v first told)));
+  }
+    where
+      same : mid.failed ≡ old.failed
+      same = first.stays.still (no_fault v Disk)
+
+  -- a call that only reads adds nothing
+  pub adds_none : (old new : Ledger E J r c g) {T : Type 0} (result : Result T HostFault) → OnlyReads old new result → Adds old new [] result
+  adds_none old new {T = T} result reads = record {
+    stays = reads.stays;
+    grown = both result (reads.entries ∙ sym (append-nil (g.entries old.journal)));
+    failed = λ is. absurd (reads.never_failed is);
+    refuses = both result (λ failed. refl);
+    counts = nothing_counted (g.counts old.journal) (g.counts new.journal) reads.counts reads.quiet;
+    images = λ told. record {
+      later = (reads.images told).later;
+      each = λ image left. inl ((reads.images told).each image left);
+      before = λ t image le left. ⊎_elim (λ earlier. inl earlier) (λ now. inr (inl now)) ((reads.images told).before t image le left);
+    };
+  }
+    where
+      both : (result : Result T HostFault) {P : Type 0} → P → OnOk result P
+      both (Ok v) p = p
+      both (Err e) p = tt
+
+      nothing_counted : (a b : Option Counts) → StaysCounted a b → IsQuiet a (IsErrOf result Disk) → IsTrying 0 a b (IsOk result) (IsErrOf result Disk) (IsErrOf result Memory) ((old.failed ≡ false) × ([] ≡ (let none : List E = [] in none) → ⊥))
+      nothing_counted None b same quiet = tt
+      nothing_counted (Some k) b same quiet = λ few. record {
+        added = λ ok. same ∙ ap (λ (n : ℕ). let counts : Counts = record { calls = n; stop = k.stop } in Some counts) (let plus : k.calls ≡ k.calls + 0 = omega arith in plus);
+        stopped = λ is. absurd (quiet is);
+        goes_on = λ would within. absurd (would.1 refl);
+        other = λ no' no''. same;
+      }

@@ -1,0 +1,146 @@
+ghost use Rattle.std.specs.Prelude.{◌≡◌, IsTrue, false};
+ghost use Rattle.std.specs.Coded.{Coded-set, coded_option, coded_list, Π_prop};
+ghost use Rattle.cap_journal.specs.Seen.{EveryImage};
+ghost use Rattle.cap_host_ledger.specs.Front.{HasFront};
+
+use crate::fault::HostFault;
+use cap_journal::{Journal, JournalError, Record};
+use std::marker::PhantomData;
+
+/// A journal, and whether a call of it answered `Disk` since it was opened. The entries stand in every image that a crash may leave, at any time.
+#[derive(Drop)]
+pub struct Ledger<E: Record, J: Journal<E> + Drop> {
+    journal: J,
+    failed: bool,
+    of: PhantomData<E>,
+    ghost works: { failed ≡ false → J.has_failed journal ≡ false },
+    ghost stands: { IsTrue (J.tells journal) → EveryImage J.may_leave journal (HasFront E.reading (J.entries journal)) } by { Π_prop (λ _. Π_prop (λ _. Π_prop (λ _. Coded-set (coded_option (coded_list E.code)) _ _))) },
+}
+
+impl<E: Record, J: Journal<E> + Drop> Ledger<E, J> {
+    ghost use Rattle.std.specs.Prelude.{◌≤◌, ◌<◌, ◌+◌, ◌++◌, ◌∷◌, [], length, map, sum, All, OnOk, IfOk, IfErr, slice_get, Ok, Some, List};
+    ghost use Rattle.cap_journal.specs.Spare.{Suffices};
+    ghost use Rattle.cap_host_ledger.specs.declared.fault.HostFault.TheVariants.{Disk, Memory};
+    ghost use Rattle.cap_host_ledger.specs.Ledger.{journal_in, has_failed, entries_in, spare_in, fetched_in, is_readable, OnlyReads, Adds};
+
+    /// A journal that has not failed.
+    pub fn new(journal: J) -> Self
+        requires { J.has_failed journal ≡ false }
+        ensures journal { journal_in result ≡ journal }
+        ensures works { has_failed result ≡ false }
+    {
+        Ledger {
+            journal,
+            failed: false,
+            of: PhantomData,
+        }
+    }
+
+    /// The journal.
+    pub fn into_journal(self) -> J
+        ensures { result ≡ journal_in self }
+    {
+        self.journal
+    }
+
+    /// Whether a call answered `Disk`.
+    pub fn has_failed(&self) -> bool
+        ensures { result ≡ has_failed self.now }
+    {
+        self.failed
+    }
+
+    /// How many entries there are.
+    pub fn count(&self) -> u64
+        ensures { result ≡ length (entries_in self.now) }
+    {
+        self.journal.count()
+    }
+
+    /// Gives a value, and does nothing.
+    pub fn give<T>(&self, value: T) -> Result<T, HostFault>
+        ensures value { result ≡ Ok value }
+        ensures reads { OnlyReads self.now self.now result }
+    {
+        Ok(value)
+    }
+
+    /// Gives an entry; they count from 0. `Memory` also comes where the journal no longer reads what was written.
+    pub fn fetch(&mut self, number: u64) -> Result<E, HostFault>
+        ensures value { IsTrue (is_readable self.old) → IfOk result (λ entry. slice_get (entries_in self.old) number ≡ Some entry) }
+        ensures reads { OnlyReads self.old self.new result }
+        ensures fetched { fetched_in self.new ≤ fetched_in self.old + 1 }
+    {
+        if self.journal.count() <= number {
+            return Err(HostFault::Memory);
+        }
+        match self.journal.entry(number) {
+            Ok(entry) => Ok(entry),
+            Err(JournalError::Memory) => Err(HostFault::Memory),
+            Err(_) => {
+                self.failed = true;
+                Err(HostFault::Disk)
+            }
+        }
+    }
+
+    /// Makes room for n more entries whose record has at most 72 bytes.
+    pub fn reserve(&mut self, n: usize) -> Result<(), HostFault>
+        ensures room { OnOk result (n ≤ (spare_in self.new).small) }
+        ensures reads { OnlyReads self.old self.new result }
+        ensures memory { IfErr result (λ fault. fault ≡ Memory) }
+        ensures fetched { fetched_in self.new ≡ fetched_in self.old }
+    {
+        self.journal.reserve(n)?;
+        Ok(())
+    }
+
+    /// Makes room for one more entry of any size.
+    pub fn reserve_rows(&mut self) -> Result<(), HostFault>
+        ensures room { OnOk result (1 ≤ (spare_in self.new).rows) }
+        ensures reads { OnlyReads self.old self.new result }
+        ensures memory { IfErr result (λ fault. fault ≡ Memory) }
+        ensures fetched { fetched_in self.new ≡ fetched_in self.old }
+    {
+        self.journal.reserve_rows()?;
+        Ok(())
+    }
+
+    /// Adds an entry, where no call failed.
+    pub fn add(&mut self, entry: E) -> Result<(), HostFault>
+        requires works { has_failed self.old ≡ false }
+        requires fits { IsTrue (E.fits entry) }
+        requires spare { Suffices (length (E.bytes_of entry) ∷ []) (spare_in self.old) }
+        ensures adds { Adds self.old self.new (entry ∷ []) result }
+        ensures disk { IfErr result (λ fault. fault ≡ Disk) }
+        ensures fetched { fetched_in self.new ≡ fetched_in self.old }
+    {
+        match self.journal.append(entry) {
+            Ok(()) => Ok(()),
+            Err(_) => {
+                self.failed = true;
+                Err(HostFault::Disk)
+            }
+        }
+    }
+
+    /// Adds entries as one group, where no call failed.
+    pub fn add_group(&mut self, added: Vec<E>) -> Result<(), HostFault>
+        requires works { has_failed self.old ≡ false }
+        requires some { 0 < length added.items }
+        requires fits { All (λ entry. IsTrue (E.fits entry)) added.items }
+        requires size { sum (map (λ entry. length (E.bytes_of entry)) added.items) ≤ 65536 }
+        requires spare { Suffices (map (λ entry. length (E.bytes_of entry)) added.items) (spare_in self.old) }
+        ensures adds { Adds self.old self.new added.items result }
+        ensures disk { IfErr result (λ fault. fault ≡ Disk) }
+        ensures fetched { fetched_in self.new ≡ fetched_in self.old }
+    {
+        match self.journal.append_group(added) {
+            Ok(()) => Ok(()),
+            Err(_) => {
+                self.failed = true;
+                Err(HostFault::Disk)
+            }
+        }
+    }
+}

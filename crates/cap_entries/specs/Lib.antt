@@ -30,3 +30,15 @@ pub mod HostAllowedLaws
 pub mod HostSummaryLaws
 pub mod FloorLaws
 pub mod LogsFit
+pub mod RecordParts
+pub mod RecordPartsLaws
+pub mod RecordField
+pub mod RecordDates
+pub mod RecordFieldLaws
+pub mod RecordSizes
+pub mod TermRecord
+pub mod HostRecord
+pub mod TermRecordLaws
+pub mod TermRecordFits
+pub mod HostRecordLaws
+pub mod HostRecordFits

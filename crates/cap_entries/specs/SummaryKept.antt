@@ -89,7 +89,7 @@ kept_at s now entry given same is i ok = summary_kept s entry i (ap (λ v. may_f
 none_kept : IsSummary no_summary
 none_kept = record { max = omega arith; sales = omega arith; closes = omega arith; items = refl }
 
-kept_along : (entries : List TermEntry) → all_allowed [] entries ≡ true → IsSummary (summary entries)
+pub kept_along : (entries : List TermEntry) → all_allowed [] entries ≡ true → IsSummary (summary entries)
 kept_along entries ok =
     (along (λ e. (all_allowed [] e ≡ true) × IsSummary (summary e))
     (λ before entry k fine. (

@@ -126,7 +126,7 @@ impl Clone for HostSetup {
 }
 
 /// An entry of a host's journal.
-#[derive(Clone, Debug, Drop)]
+#[derive(Debug, Drop)]
 pub enum HostEntry {
     /// The host was set up.
     Setup(HostSetup),
@@ -134,4 +134,22 @@ pub enum HostEntry {
     Took { terminal: u8, item: Item },
     /// A parameter set was published.
     Published { version: u64, rows: RowSet },
+}
+
+impl Clone for HostEntry {
+    ghost is_clone = { λ a b. b ≡ a };
+
+    fn clone(&self) -> Result<HostEntry, AllocError> {
+        Ok(match self {
+            HostEntry::Setup(settings) => HostEntry::Setup(settings.clone()?),
+            HostEntry::Took { terminal, item } => HostEntry::Took {
+                terminal: *terminal,
+                item: *item,
+            },
+            HostEntry::Published { version, rows } => HostEntry::Published {
+                version: *version,
+                rows: rows.clone()?,
+            },
+        })
+    }
 }

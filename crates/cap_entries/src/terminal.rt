@@ -2,6 +2,7 @@ ghost use Rattle.std.specs.Prelude.{◌≡◌, true};
 ghost use Rattle.cap_entries.specs.Settings.{TerminalSettings, is_terminal_settings, terminal_settings_of};
 
 use cap_base::{Account, Amount, Code6, ConfigPart, Ident};
+use std::alloc::AllocError;
 use std::marker::Model;
 
 /// How a terminal was set up: its name, its host's name, how many sales it may begin (1 to 250,000), and up to which sum in hundredths (at most
@@ -78,7 +79,7 @@ impl TermSetup {
 }
 
 /// An entry of a terminal's journal. Sales count from 1, and so do periods and items.
-#[derive(Clone, Debug, Drop)]
+#[derive(Debug, Drop)]
 pub enum TermEntry {
     /// The terminal was set up.
     Setup(TermSetup),
@@ -115,4 +116,31 @@ pub enum TermEntry {
     },
     /// A part of a parameter set came.
     Part(ConfigPart),
+}
+
+impl Clone for TermEntry {
+    ghost is_clone = { λ a b. b ≡ a };
+
+    fn clone(&self) -> Result<TermEntry, AllocError> {
+        Ok(match self {
+            TermEntry::Setup(settings) => TermEntry::Setup(*settings),
+            TermEntry::Begin { n, amount, account } => TermEntry::Begin {
+                n: *n,
+                amount: *amount,
+                account: *account,
+            },
+            TermEntry::Declined { n } => TermEntry::Declined { n: *n },
+            TermEntry::Completed { n, code } => TermEntry::Completed { n: *n, code: *code },
+            TermEntry::Voided { n } => TermEntry::Voided { n: *n },
+            TermEntry::Cancelled { n } => TermEntry::Cancelled { n: *n },
+            TermEntry::Closed { p } => TermEntry::Closed { p: *p },
+            TermEntry::Acked { m } => TermEntry::Acked { m: *m },
+            TermEntry::Part(part) => TermEntry::Part(ConfigPart {
+                version: part.version,
+                part: part.part,
+                parts: part.parts,
+                rows: part.rows.clone()?,
+            }),
+        })
+    }
 }

@@ -1,1 +1,4 @@
 pub mod Actions
+pub mod Bodies
+pub mod Shapes
+pub mod Reading

@@ -2,3 +2,10 @@ pub mod Received
 pub mod Moment
 pub mod Report
 pub mod Reply
+pub mod Trees
+pub mod Ranges
+pub mod Reads
+pub mod Unread
+pub mod Shapes
+pub mod Reading
+pub mod Family

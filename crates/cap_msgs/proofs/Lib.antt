@@ -1,0 +1,10 @@
+pub mod Inverts
+pub mod LeafShapes
+pub mod HeaderShapes
+pub mod SaleShapes
+pub mod BatchShapes
+pub mod MgmtShapes
+pub mod Whole
+pub mod Values
+pub mod Sizes
+pub mod Exact

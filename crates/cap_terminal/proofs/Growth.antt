@@ -1,13 +1,14 @@
 -- How entries, what the terminal keeps of them, and their legality grow by one entry.
-use Rattle.std.proofs.Common.{◌≡◌, ℕ, true, List, [], ◌∷◌, ◌++◌, refl}
+use Rattle.std.specs.Prelude.{count_by, ◌==◌, nat_le}
+use Rattle.std.proofs.Common.{◌≡◌, ℕ, ◌+◌, ◌≤◌, true, false, not, arith, eq-eqb, le-leb, List, [], ◌∷◌, ◌++◌, refl, ap}
 use Rattle.std.proofs.lemmas.Bool.{and_from, false≢true}
 use Rattle.std.proofs.lemmas.List.Sums.{fold_push}
 use Rattle.cap_entries.specs.declared.terminal.TermEntry.{TermEntry}
 use Rattle.cap_entries.specs.declared.terminal.TermEntry.TheVariants.{Setup, Begin, Declined, Completed, Voided, Cancelled, Closed, Acked, Part}
-use Rattle.cap_entries.specs.Entry.{term_setup_of, max_of}
+use Rattle.cap_entries.specs.Entry.{is_any_begin, is_pending, is_completed, is_cancelled, term_setup_of, max_of}
 use Rattle.cap_entries.specs.Floor.{setup_floor}
 use Rattle.cap_entries.specs.Acked.{acked_from, acked}
-use Rattle.cap_entries.specs.Allowed.{allowed, allowed_after, is_legal}
+use Rattle.cap_entries.specs.Allowed.{allowed, allowed_after, all_allowed, is_legal}
 use Rattle.cap_entries.specs.AllowedLaws.{all_allowed-append, along}
 use Rattle.cap_terminal.specs.Index.{index_after, index_of, no_index}
 
@@ -15,6 +16,10 @@ use Rattle.cap_terminal.specs.Index.{index_after, index_of, no_index}
 pub legal_push : (entries : List TermEntry) (entry : TermEntry) → is_legal entries ≡ true → allowed entries entry ≡ true → is_legal (entries ++ entry ∷ []) ≡ true
 legal_push [] entry legal ok = absurd (false≢true legal)
 legal_push (first ∷ rest) entry legal ok = all_allowed-append [] (first ∷ rest) (entry ∷ []) legal (and_from _ _ ok refl)
+
+pub all_allowed_of : (entries : List TermEntry) → is_legal entries ≡ true → all_allowed [] entries ≡ true
+all_allowed_of [] legal = absurd (false≢true legal)
+all_allowed_of (first ∷ rest) legal = legal
 
 -- after the set-up the rules are those of the entry
 pub after_setup : (entries : List TermEntry) (entry : TermEntry) → is_legal entries ≡ true → allowed entries entry ≡ allowed_after entries entry
@@ -82,3 +87,25 @@ own_floor_is (Cancelled k ∷ rest) = refl
 own_floor_is (Closed k ∷ rest) = refl
 own_floor_is (Acked k ∷ rest) = refl
 own_floor_is (Part part ∷ rest) = refl
+
+-- a pending sale may end, and a completed one may be cancelled
+pub declined_allowed : (entries : List TermEntry) (n : ℕ) → is_pending entries n ≡ true → allowed entries (Declined n) ≡ true
+declined_allowed [] n pending = absurd (false≢true pending)
+declined_allowed (first ∷ rest) n pending = pending
+
+pub completed_allowed : (entries : List TermEntry) (n : ℕ) (code : List ℕ) → is_pending entries n ≡ true → allowed entries (Completed n code) ≡ true
+completed_allowed [] n code pending = absurd (false≢true pending)
+completed_allowed (first ∷ rest) n code pending = pending
+
+pub voided_allowed : (entries : List TermEntry) (n : ℕ) → is_pending entries n ≡ true → allowed entries (Voided n) ≡ true
+voided_allowed [] n pending = absurd (false≢true pending)
+voided_allowed (first ∷ rest) n pending = pending
+
+pub cancelled_allowed : (entries : List TermEntry) (n : ℕ) → is_completed entries n ≡ true → is_cancelled entries n ≡ false → allowed entries (Cancelled n) ≡ true
+cancelled_allowed [] n completed cancelled = absurd (false≢true completed)
+cancelled_allowed (first ∷ rest) n completed cancelled = and_from (is_completed (first ∷ rest) n) (not (is_cancelled (first ∷ rest) n)) completed (ap not cancelled)
+
+-- so may the next sale begin, where the set-up lets it
+pub begin_allowed : (entries : List TermEntry) (n amount : ℕ) (account : List ℕ) → n ≡ count_by is_any_begin entries + 1 → n ≤ max_of entries → allowed entries (Begin n amount account) ≡ true
+begin_allowed [] n amount account is le = let no : ⊥ = omega (arith, is, le) in absurd no
+begin_allowed (first ∷ rest) n amount account is le = and_from (n == count_by is_any_begin (first ∷ rest) + 1) (nat_le n (max_of (first ∷ rest))) (eq-eqb n _ is) (le-leb n (max_of (first ∷ rest)) le)

@@ -1,6 +1,7 @@
 ghost use Rattle.std.specs.Prelude.{◌≡◌, ◌≤◌, ◌<◌, ◌+◌, ◌-◌, ◌*◌, ◌++◌, ◌∷◌, [], ℕ, length, vec_len, vec_capacity, OnOk, OnErr, Some, None, slice_get, sum_by};
 ghost use Rattle.cap_base.specs.declared.item.Item.TheVariants.{Sale, Void, Cancel, Close};
 ghost use Rattle.cap_terminal.specs.Index.{row_need, done_count, back_count, given_up_count, row_of, staged, need_of, done_of, back_of, given_up_of};
+ghost use Rattle.cap_terminal.specs.Says.{sale_at};
 ghost use Rattle.cap_terminal.specs.Running.{counted, nothing};
 ghost use Rattle.cap_terminal.specs.declared.sale_row.Stage.TheVariants.{Pending, Declined, Completed, Voided, Cancelled};
 
@@ -82,6 +83,17 @@ impl Index {
             voided: 0,
             sets: Sets::NONE,
             owed: 0,
+        }
+    }
+
+    /// The sale with this number, if there is one.
+    pub fn sale(&self, n: u64) -> Option<SaleRow>
+        ensures { result ≡ sale_at self.now.sales.items n }
+    {
+        if 1 <= n && n <= self.sales.len() as u64 {
+            Some(self.sales[(n - 1) as usize])
+        } else {
+            None
         }
     }
 

@@ -1,0 +1,9 @@
+use Rattle.std.proofs.Common.{◌∙◌, ap}
+use Rattle.cap_entries.specs.Entry.{is_pending}
+use Rattle.cap_terminal.proofs.Growth.{completed_allowed}
+use Rattle.cap_terminal.proofs.terminal.Terminal.complete.Goals as goal
+
+pub add-requires-clause-allowed : goal.add-requires-clause-allowed
+add-requires-clause-allowed g c =
+    let entries = g.J.Journal.entries c.args.self.now in
+    completed_allowed entries c.n.result c.code.result (ap (is_pending entries) c.n.ensures ∙ c.requires.live.pending)

@@ -12,7 +12,7 @@ use std::test::Fail;
 type Trial = DiskJournal<Sample, MemoryDisk>;
 
 // All bytes of a disk.
-fn bytes_of(alloc: Global, disk: &mut MemoryDisk) -> Result<Vec<u8>, Fail> {
+pub(crate) fn bytes_of(alloc: Global, disk: &mut MemoryDisk) -> Result<Vec<u8>, Fail> {
     let len = disk.len()?;
     let mut bytes = vec![in alloc; 0; len as usize]?;
     disk.read_at(0, bytes.as_mut_slice())?;
@@ -20,7 +20,7 @@ fn bytes_of(alloc: Global, disk: &mut MemoryDisk) -> Result<Vec<u8>, Fail> {
 }
 
 // A disk with these bytes, synced.
-fn disk_with(alloc: Global, bytes: &[u8]) -> Result<MemoryDisk, Fail> {
+pub(crate) fn disk_with(alloc: Global, bytes: &[u8]) -> Result<MemoryDisk, Fail> {
     let mut disk = MemoryDisk::new(alloc)?;
     disk.make_room(bytes.len() as u64, 2)?;
     disk.write_at(0, bytes)?;

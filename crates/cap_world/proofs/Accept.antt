@@ -1,5 +1,5 @@
 -- What a terminal reports is accepted.
-use Rattle.std.proofs.Common.{◌≡◌, ℕ, ◌+◌, ◌<◌, true, List, [], ◌∷◌, ◌++◌, length, take, drop, Some, sym, ◌∙◌, ap, subst, take-append-drop, arith, ◌⊎◌, false, None, refl, ⊎_elim, ◌-◌, length-append, drop_at, eq-eqb, ne_eqb, leb-true, leb-false, eqb-true, ltb-true}
+use Rattle.std.proofs.Common.{◌≡◌, ℕ, ◌+◌, ◌<◌, true, List, [], ◌∷◌, ◌++◌, length, take, drop, Some, sym, ◌∙◌, ap, subst, take-append-drop, arith, None, refl, ⊎_elim, ◌-◌, length-append, drop_at, eq-eqb, ne_eqb, leb-true, leb-false, eqb-true, ltb-true}
 use Rattle.std.specs.Prelude.{slice_get, nat_le, ◌==◌}
 use Rattle.std.proofs.lemmas.Bool.{cond_both, cond-true, cond-false, and_parts, and_from, false≢true, or_cases}
 use Rattle.std.proofs.lemmas.List.{drop-append-le}
@@ -8,14 +8,12 @@ use Rattle.cap_base.specs.declared.item.Item.{Item}
 use Rattle.cap_base.specs.declared.item.Item.TheVariants.{Sale, Void, Cancel, Close}
 use Rattle.cap_base.specs.declared.codes.Response.TheVariants.{Appr, Decl, Part}
 use Rattle.cap_base.specs.Item.{totals_eq, item_eq}
-use Rattle.cap_base.specs.Captured.{period_totals, totals}
+use Rattle.cap_base.specs.Captured.{period_totals}
 use Rattle.cap_base.specs.Fits.{fits, all_fit}
 use Rattle.cap_batch_msgs.specs.declared.body.BatchBody.TheVariants.{ReconcileAnswer, BatchAnswer}
 use Rattle.cap_msgs.specs.declared.message.Body.TheVariants.{Batch as Of_batch}
 use Rattle.cap_msgs.specs.Report.{Report, Asks_sale, Asks_cancel, Asks_state, Asks_data, Advice, Many, From_host, Unanswered}
-use Rattle.cap_msgs.specs.Reply.{agrees}
 use Rattle.cap_entries.specs.declared.host.HostEntry.{HostEntry}
-use Rattle.cap_entries.specs.Entry.{cancels}
 use Rattle.cap_entries.specs.Log.{log}
 use Rattle.cap_entries.specs.Fronts.{IsPrefixOf}
 use Rattle.cap_entries.specs.FitsLaws.{all_fit_front, all_fit_back}

@@ -1,5 +1,5 @@
 -- The set in force is one that was published.
-use Rattle.std.proofs.Common.{◌≡◌, ℕ, zero, suc, ◌+◌, ◌<◌, ◌≤◌, true, List, [], ◌∷◌, ◌++◌, take, Some, sym, ◌∙◌, ap, append_assoc, append-nil, arith, ◌⊎◌, false, Option, None, refl, inl, inr, ⊎_elim, ◌-◌, eq-eqb, ne_eqb, leb-true, cond, ◌&&◌, eqb-true, ltb-true, ◌*◌, take-add, take_all}
+use Rattle.std.proofs.Common.{◌≡◌, ℕ, zero, suc, ◌+◌, ◌<◌, ◌≤◌, true, List, [], ◌∷◌, ◌++◌, take, Some, sym, ◌∙◌, ap, append_assoc, append-nil, arith, Option, None, refl, inl, inr, ⊎_elim, ◌-◌, eq-eqb, ne_eqb, leb-true, cond, ◌&&◌, eqb-true, ltb-true, ◌*◌, take-add, take_all}
 use Rattle.std.specs.Prelude.{slice_get, nat_le, nat_lt, ◌==◌}
 use Rattle.std.specs.List.{AllByRecursion}
 use Rattle.std.proofs.lemmas.Bool.{cond_both, cond-true, cond-false, and_parts, cases_Bool, false≢true, or_cases, cases_lt}
@@ -17,7 +17,6 @@ use Rattle.cap_entries.specs.InForce.{version_in_force_from, version_in_force, r
 use Rattle.cap_entries.specs.Log.{published}
 use Rattle.cap_entries.specs.AllowedLaws.{along, allowed_is}
 use Rattle.cap_manager.specs.Manager.{part_rows, parts_of}
-use Rattle.cap_terminal.specs.Takes.{tells}
 use Rattle.cap_world.proofs.Named.{all_front, all_back}
 use Rattle.cap_world.specs.SetsInForce.{SetIsPublished}
 

@@ -12,7 +12,7 @@ use Rattle.cap_mgmt_msgs.specs.declared.body.MgmtBody.TheVariants.{Status, Plan,
 use Rattle.cap_msgs.specs.declared.message.Body.{Body}
 use Rattle.cap_msgs.specs.declared.message.Message.{Message}
 use Rattle.cap_msgs.specs.Report.{Report, Asks_sale, Asks_cancel, Asks_state, Asks_data, Advice, Many, From_host, Unanswered, report_of}
-use Rattle.cap_msgs.specs.Reply.{reply_of, acknowledges, reply_item}
+use Rattle.cap_msgs.specs.Reply.{reply_of, reply_item}
 use Rattle.cap_entries.specs.Settings.{HostSettings}
 use Rattle.cap_entries.specs.declared.host.HostEntry.{HostEntry}
 use Rattle.cap_entries.specs.declared.host.HostEntry.TheVariants.{Took}
@@ -20,7 +20,6 @@ use Rattle.cap_entries.specs.Log.{log, published, setup_of}
 use Rattle.cap_entries.specs.Fronts.{IsPrefixOf, prefix_refl}
 use Rattle.cap_manager.specs.Manager.{answer_status}
 use Rattle.cap_host.specs.Answer.{Answered, is_approved, answer_request, answer_of_item, item_at, same_item, is_unexpected, answer_advice, agree_so_far, fitting, fresh_items, taken_items, answer_batch, answer_data, answer_report, answer_of}
-use Rattle.cap_terminal.specs.Takes.{takes}
 use Rattle.cap_world.proofs.Sound.{StandsAt, ReportOk, SentOk}
 
 -- two splits of a list at the same place

@@ -1,5 +1,5 @@
 -- Journals stay legal, and what a terminal reports is accepted in every world.
-use Rattle.std.proofs.Common.{◌≡◌, ℕ, ◌+◌, ◌≤◌, Bool, true, List, [], ◌∷◌, ◌++◌, length, take, drop, Some, sym, ◌∙◌, ap, subst, append_assoc, append-nil, take-append-drop, arith, ◌⊎◌, false, Option, None, refl, ⊎_elim, ◌-◌, eq-eqb, leb-false, not, le-leb, ltb-true, ltb-false, lt-ltb}
+use Rattle.std.proofs.Common.{◌≡◌, ℕ, ◌+◌, ◌≤◌, Bool, true, List, [], ◌∷◌, ◌++◌, length, take, drop, Some, sym, ◌∙◌, ap, subst, append_assoc, append-nil, take-append-drop, arith, false, Option, None, refl, ⊎_elim, eq-eqb, leb-false, not, le-leb, ltb-true, ltb-false, lt-ltb}
 use Rattle.std.specs.Prelude.{slice_get, nat_le, nat_lt, count_by}
 use Rattle.std.specs.List.{AllByRecursion}
 use Rattle.std.proofs.lemmas.Bool.{cond_both, and_from}
@@ -27,7 +27,7 @@ use Rattle.cap_entries.specs.ItemsLaws.{items_grow}
 use Rattle.cap_entries.specs.LogLaws.{log_grow, log_kept}
 use Rattle.cap_entries.specs.AllowedLaws.{all_allowed-append, all_allowed_front}
 use Rattle.cap_manager.specs.Manager.{answer_status}
-use Rattle.cap_host.specs.Answer.{Answered, answers, is_approved, answer_request, answer_data, answer_report, answer_of}
+use Rattle.cap_host.specs.Answer.{Answered, is_approved, answer_request, answer_data, answer_report, answer_of}
 use Rattle.cap_host.specs.Received.{answer_received, Replies}
 use Rattle.cap_terminal.specs.declared.handled.AuthResponse.{AuthResponse}
 use Rattle.cap_terminal.specs.declared.handled.Handled.{Handled}

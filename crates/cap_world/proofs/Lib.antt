@@ -1,7 +1,5 @@
-pub mod Deliveries
 pub mod Splitting
 pub mod OtherLines
-pub mod Repeats
 pub mod Named
 pub mod Sound
 pub mod Parties
@@ -16,3 +14,6 @@ pub mod LegalRuns
 pub mod Merged
 pub mod MergedBytes
 pub mod Worked
+pub mod Runs
+pub mod Turning
+pub mod Sessions

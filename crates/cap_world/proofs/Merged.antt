@@ -1,5 +1,5 @@
 -- The work of the ends, merged, is a run.
-use Rattle.std.proofs.Common.{ℕ, List, [], ◌∷◌, refl, ◌-◌}
+use Rattle.std.proofs.Common.{ℕ, List, [], ◌∷◌, refl}
 use Rattle.cap_msgs.specs.declared.message.Message.{Message}
 use Rattle.cap_entries.specs.declared.terminal.TermEntry.{TermEntry}
 use Rattle.cap_entries.specs.declared.host.HostEntry.{HostEntry}

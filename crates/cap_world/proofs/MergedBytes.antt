@@ -1,5 +1,5 @@
 -- The work of the ends on what a network brings is a run.
-use Rattle.std.proofs.Common.{◌≡◌, ℕ, ◌+◌, List, [], ◌∷◌, ◌++◌, length, sym, ◌∙◌, ap, subst, append-nil, ◌⊎◌, Option, refl, ⊎_elim, ◌-◌}
+use Rattle.std.proofs.Common.{◌≡◌, ℕ, List, [], ◌∷◌, ◌++◌, length, sym, ◌∙◌, ap, subst, append-nil, Option, refl, ⊎_elim}
 use Rattle.std.specs.Prelude.{slice_set}
 use Rattle.std.proofs.lemmas.Bool.{cond-false}
 use Rattle.cap_msgs.specs.declared.message.Message.{Message}
@@ -8,7 +8,6 @@ use Rattle.cap_entries.specs.Settings.{TerminalSettings, HostSettings}
 use Rattle.cap_entries.specs.declared.terminal.TermEntry.{TermEntry}
 use Rattle.cap_entries.specs.declared.host.HostEntry.{HostEntry}
 use Rattle.cap_entries.specs.Log.{setup_of}
-use Rattle.cap_host.specs.Answer.{refusal}
 use Rattle.cap_host.specs.Received.{place_or, place_named}
 use Rattle.cap_terminal.specs.declared.handled.TermFault.{TermFault}
 use Rattle.cap_terminal.specs.Takes.{Taken, refuses, is_for_us, takes, IsNotOurs}

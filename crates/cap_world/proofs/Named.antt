@@ -1,5 +1,5 @@
 -- Each message of a terminal names it and its host, in every world of every run.
-use Rattle.std.proofs.Common.{◌≡◌, ℕ, zero, suc, ◌+◌, true, List, [], ◌∷◌, ◌++◌, take, drop, Some, sym, ◌∙◌, ap, subst, append-nil, take-append-drop, arith, ◌⊎◌, false, map, set, None, refl, inl, inr, ⊎_elim, ◌-◌, eq-eqb, not, ◌&&◌}
+use Rattle.std.proofs.Common.{◌≡◌, ℕ, zero, suc, ◌+◌, true, List, [], ◌∷◌, ◌++◌, take, drop, Some, sym, ◌∙◌, ap, subst, append-nil, take-append-drop, arith, ◌⊎◌, false, map, set, None, refl, inl, inr, ⊎_elim, eq-eqb, not, ◌&&◌}
 use Rattle.std.specs.Prelude.{slice_get, bytes_eq, option_map}
 use Rattle.std.specs.List.{AllByRecursion, list_any}
 use Rattle.std.proofs.lemmas.Bool.{cond-true, cond-false, and_parts, and_from, or_parts, not-true}
@@ -13,7 +13,6 @@ use Rattle.cap_entries.specs.declared.host.HostEntry.{HostEntry}
 use Rattle.cap_entries.specs.declared.host.HostEntry.TheVariants.{Setup as Host_setup}
 use Rattle.cap_entries.specs.Entry.{term_setup_of}
 use Rattle.cap_entries.specs.Log.{setup_of}
-use Rattle.cap_host.specs.Answer.{answers}
 use Rattle.cap_host.specs.Received.{place_from, place_of}
 use Rattle.cap_terminal.specs.Sends.{Sending, Head, Batch_of, Ask, Ask_cancel, Diagnose, Report_status, Sends}
 use Rattle.cap_world.specs.World.{TerminalState, World, TerminalAction, Begins, Offline, Gives_up, Cancels, Closes, Sends_message, Takes_answer, Hears_foreign, TerminalDoes, Event, Acts, Interrupted, Restart, Interrupted_restart, TerminalStep, HostAction, delivered, HostStep, Happening, At_terminal, At_host, Step, started, first, SetUpsMatch, Run}

@@ -1,5 +1,5 @@
 -- A message of a terminal to its host gets the answer of its place; what is foreign gets a rejection or nothing.
-use Rattle.std.proofs.Common.{◌≡◌, ℕ, Bool, true, List, [], Some, sym, ◌∙◌, ap, ◌⊎◌, false, Option, None, refl, ⊎_elim, ◌-◌}
+use Rattle.std.proofs.Common.{◌≡◌, ℕ, Bool, true, List, [], Some, sym, ◌∙◌, ap, false, Option, None, refl, ⊎_elim}
 use Rattle.std.specs.Prelude.{bytes_eq}
 use Rattle.std.proofs.lemmas.Bool.{cond_both, cond-true, cond-false, false≢true}
 use Rattle.cap_base.specs.declared.codes.Reason.{Reason}
@@ -9,7 +9,7 @@ use Rattle.cap_msgs.specs.declared.message.Body.{Body}
 use Rattle.cap_msgs.specs.declared.message.Message.{Message}
 use Rattle.cap_msgs.specs.Received.{Received, Read, Unread}
 use Rattle.cap_msgs.specs.Report.{report_of, is_from_host, is_unanswered, is_management}
-use Rattle.cap_msgs.specs.Reply.{Rejects, reply_of, acknowledges}
+use Rattle.cap_msgs.specs.Reply.{Rejects, reply_of}
 use Rattle.cap_entries.specs.declared.host.HostEntry.{HostEntry}
 use Rattle.cap_entries.specs.Log.{setup_of}
 use Rattle.cap_host.specs.Answer.{Answered, refusal, answer_of}

@@ -1,7 +1,7 @@
 -- The two small runs, computed.
-use Rattle.std.proofs.Common.{◌≡◌, ℕ, List, [], ◌∷◌, Option, Some, None, refl, pos, ◌∙◌, ap, lit<, lit≤}
-use Rattle.cap_world.specs.World.{World, SetUpsMatch}
-use Rattle.cap_world.specs.Worked.{small_host, small_terminal, first_sale, interrupted_sale, SmallRun, FirstSaleIsARun, InterruptedSaleIsARun}
+use Rattle.std.proofs.Common.{[], ◌∷◌, refl, lit<, lit≤}
+use Rattle.cap_world.specs.World.{SetUpsMatch}
+use Rattle.cap_world.specs.Worked.{small_host, small_terminal, first_sale, interrupted_sale, FirstSaleIsARun, InterruptedSaleIsARun}
 
 matching : SetUpsMatch small_host (small_terminal ∷ [])
 matching = record { names = refl; hosts = (refl, tt); rules = (refl, tt); host_rule = refl }

@@ -1,7 +1,3 @@
-pub mod Blocks
-pub mod Language
-pub mod Model
-pub mod Report
 pub mod World
 pub mod Agreement
 pub mod Accepted
@@ -11,3 +7,12 @@ pub mod LegalJournals
 pub mod Work
 pub mod Node
 pub mod Worked
+pub mod Blocks
+pub mod Language
+pub mod Matching
+pub mod Kinds
+pub mod Orders
+pub mod Turns
+pub mod Plays
+pub mod Report
+pub mod Session

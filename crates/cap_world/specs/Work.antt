@@ -1,5 +1,5 @@
 -- What one end does by itself, and how the work of several ends on the messages that they sent is one run.
-use Rattle.std.specs.Prelude.{◌≡◌, ℕ, ◌+◌, ◌<◌, true, false, List, [], ◌∷◌, ◌++◌, length, take, Some, None, slice_get, slice_set}
+use Rattle.std.specs.Prelude.{◌≡◌, ℕ, ◌+◌, ◌<◌, true, false, List, [], ◌∷◌, ◌++◌, length, Some, slice_get, slice_set}
 use Rattle.cap_base.specs.declared.parameters.Row.{Row}
 use Rattle.cap_msgs.specs.declared.message.Message.{Message}
 use Rattle.cap_msgs.specs.Received.{Received, Read}

@@ -1,34 +1,52 @@
-ghost use Rattle.std.specs.Prelude.{◌≡◌, ◌==◌, length};
+ghost use Rattle.std.specs.Prelude.{◌≡◌, ◌==◌, true, false, length, IfOk, MatchOption, map};
 ghost use Rattle.std.specs.List.{list_all, slice_split};
-ghost use Rattle.cap_world.specs.Blocks.{is_prefix, are_blocks};
+ghost use Rattle.cap_world.specs.Blocks.{has_six, blocks_in};
 
-// A prefix of six digits.
-fn prefix(text: &[u8]) -> bool
-    ensures { result ≡ is_prefix text.now }
+use cap_entries::Blocks;
+use std::alloc::{AllocError, Global};
+
+// The pieces between commas.
+fn pieces_of(alloc: Global, text: &[u8]) -> Result<Vec<&[u8]>, AllocError>
+    ensures { IfOk result (λ pieces. map (λ p. p.now) pieces.items ≡ slice_split (λ b. b == 44) text.now) }
 {
-    if text.len() != 6 {
-        return false;
+    text.split(|b| *b == b',').collect(alloc)
+}
+
+// A piece of six bytes.
+fn six(piece: &[u8]) -> [u8; 6]
+    requires { length piece.now ≡ 6 }
+    ensures { result ≡ piece.now }
+{
+    let mut prefix = [0; 6];
+    prefix.copy_from_slice(piece);
+    prefix
+}
+
+// The pieces, where each has six bytes.
+fn prefixes_of(alloc: Global, pieces: &[&[u8]]) -> Result<Option<Vec<[u8; 6]>>, AllocError>
+    ensures { IfOk result (λ found. MatchOption found (list_all has_six (map (λ p. p.now) pieces.now) ≡ false)
+        (λ prefixes. (list_all has_six (map (λ p. p.now) pieces.now) ≡ true) × (prefixes.items ≡ map (λ p. p.now) pieces.now))) }
+{
+    let mut prefixes = Vec::new(alloc);
+    for piece in pieces {
+        if piece.len() != 6 {
+            return Ok(None);
+        }
+        prefixes.push(six(piece))?;
     }
-    text.iter().all(|b| b.is_ascii_digit())
+    Ok(Some(prefixes))
 }
 
-// How many pieces stand between commas.
-fn count_pieces(text: &[u8]) -> usize
-    ensures { result ≡ length (slice_split (λ b. b == 44) text.now) }
+/// The blocked prefixes that a word names: `none`, or 1 to 64 prefixes of six digits with commas.
+pub fn blocks(alloc: Global, text: &[u8]) -> Result<Option<Blocks>, AllocError>
+    ensures { IfOk result (λ found. found ≡ blocks_in text.now) }
 {
-    text.split(|b| *b == b',').count()
-}
-
-// Each piece is a prefix.
-fn all_prefixes(text: &[u8]) -> bool
-    ensures { result ≡ list_all is_prefix (slice_split (λ b. b == 44) text.now) }
-{
-    text.split(|b| *b == b',').all(|p| prefix(p))
-}
-
-/// Whether a word is `none`, or 1 to 64 prefixes of six digits with commas.
-pub fn blocks(text: &[u8]) -> bool
-    ensures { result ≡ are_blocks text.now }
-{
-    text == b"none".as_slice() || (count_pieces(text) <= 64 && all_prefixes(text))
+    if text == b"none".as_slice() {
+        return Ok(Blocks::new(Vec::new(alloc)));
+    }
+    let pieces = pieces_of(alloc, text)?;
+    match prefixes_of(alloc, &pieces)? {
+        Some(prefixes) => Ok(Blocks::new(prefixes)),
+        None => Ok(None),
+    }
 }

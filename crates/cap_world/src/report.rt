@@ -1,69 +1,20 @@
 ghost use Rattle.std.specs.Prelude.{◌≡◌, ◌++◌, OnOk, IfOk, string_bytes};
 ghost use Rattle.cap_base.specs.Item.{sale_amount};
-ghost use Rattle.cap_world.specs.Report.{reason_text, outcome_line, terminal_numbers, terminal_text, host_numbers, host_text, verdict_text, world_text, completed, amounts, report};
-ghost use Rattle.cap_world.specs.Model.{act};
+ghost use Rattle.cap_entries.specs.Allowed.{Legal};
+ghost use Rattle.cap_entries.specs.Log.{log};
+ghost use Rattle.cap_world.specs.Report.{outcome_line, counts_of as spec_counts, sales_text, items_text, terminal_text, host_numbers, host_text, verdict_text, end_text, amounts};
 
-use crate::logs::capture_of;
-use crate::schedule::{Numbered, Schedule, TerminalLine};
-use crate::world::{Outcome, Reply, TermEntry, World, count_begun, items_of, last_acked, log_of};
-use cap_base::{Ident, Item, Reason};
+use crate::counts::Counts;
+use crate::journal::{
+    count_begun, count_cancelled, count_closed, count_completed, count_voided, last_acked,
+    version_of,
+};
+use crate::logs::log_of;
+use crate::outcome::Outcome;
+use cap_base::{Ident, Item, Memory};
+use cap_entries::{HostEntry, TermEntry};
+use cap_plain::{capture_of, items_of};
 use std::alloc::{AllocError, Global};
-use std::fmt;
-
-/// The letters of a reason.
-pub fn reason_letters(reason: Reason) -> &'static str
-    ensures { result.now ≡ reason_text reason }
-{
-    match reason {
-        Reason::Unpr => "UNPR",
-        Reason::Imsg => "IMSG",
-        Reason::Pars => "PARS",
-        Reason::Secu => "SECU",
-        Reason::Intp => "INTP",
-        Reason::Rcpp => "RCPP",
-        Reason::Dpmg => "DPMG",
-        Reason::Vers => "VERS",
-        Reason::Msgt => "MSGT",
-    }
-}
-
-impl fmt::Display for Reply {
-    ghost use Rattle.std.specs.Prelude.{Some};
-    ghost use Rattle.cap_world.specs.Report.{reply_text};
-
-    ghost output = { λ r. Some (reply_text r) };
-
-    fn fmt<W: fmt::Write>(&self, f: &mut fmt::Formatter<W>) -> fmt::Result {
-        match self {
-            Reply::Approved(_) => write!(f, "caaa.004"),
-            Reply::Rejected { reason, .. } => write!(f, "caaa.015 {}", reason_letters(*reason)),
-        }
-    }
-}
-
-impl fmt::Display for Outcome {
-    ghost use Rattle.std.specs.Prelude.{Some};
-    ghost use Rattle.cap_world.specs.Report.{outcome_text};
-
-    ghost output = { λ o. Some (outcome_text o) };
-
-    fn fmt<W: fmt::Write>(&self, f: &mut fmt::Formatter<W>) -> fmt::Result {
-        match self {
-            Outcome::Sold(n) => write!(f, "sale {n}"),
-            Outcome::Limit(most) => write!(f, "limit {most}"),
-            Outcome::AboveFloor(n) => write!(f, "above floor {n}"),
-            Outcome::Sent(k) => write!(f, "sent {k}"),
-            Outcome::NothingQueued => write!(f, "empty"),
-            Outcome::NoMessage(k) => write!(f, "no message {k}"),
-            Outcome::Answered { place, reply } => write!(f, "answered {place} {reply}"),
-            Outcome::AckedUpTo(m) => write!(f, "acked {m}"),
-            Outcome::Stale { number, acked } => write!(f, "stale {number} {acked}"),
-            Outcome::Beyond { number, len } => write!(f, "beyond {number} {len}"),
-            Outcome::NotAwaited => write!(f, "not awaited"),
-            Outcome::Rejected(reason) => write!(f, "rejected {}", reason_letters(*reason)),
-        }
-    }
-}
 
 // Appends a piece of text.
 fn put(text: &mut Vec<u8>, piece: &str) -> Result<(), AllocError>
@@ -79,8 +30,8 @@ fn put_bytes(text: &mut Vec<u8>, piece: &[u8]) -> Result<(), AllocError>
     text.extend_from_slice(piece)
 }
 
-// Appends the line of an outcome.
-fn put_outcome(
+/// Appends the line of an outcome.
+pub fn put_outcome(
     alloc: Global,
     text: &mut Vec<u8>,
     line: u64,
@@ -90,15 +41,6 @@ fn put_outcome(
 {
     let piece = format!(in alloc; "{line} {outcome}\n")?;
     put(text, piece.as_str())
-}
-
-fn count_completed(journal: &[TermEntry]) -> usize
-    ensures { result ≡ completed journal.now }
-{
-    journal
-        .iter()
-        .filter(|e| matches!(e, TermEntry::Completed { .. }))
-        .count()
 }
 
 // The amount of a sale, and 0 for what is none.
@@ -122,20 +64,48 @@ fn sum_of(items: &[Item]) -> u128
     sum
 }
 
-// The numbers of the terminal's line.
-#[tactic(auto, unfolding(crate::specs::Report::terminal_numbers))]
-fn terminal_piece(
-    alloc: Global,
-    sales: usize,
-    completed: usize,
-    items: usize,
-    acked: u64,
-) -> Result<String, AllocError>
-    ensures { IfOk result (λ t. string_bytes t ≡ terminal_numbers sales completed items acked) }
+// The numbers of a terminal's line.
+fn counts_of(alloc: Global, journal: &[TermEntry]) -> Result<Counts, Memory>
+    requires { Legal journal.now }
+    ensures { IfOk result (λ c. c ≡ spec_counts journal.now) }
 {
+    let items = items_of(alloc, journal)?.len();
+    Ok(Counts {
+        sales: count_begun(journal),
+        completed: count_completed(journal),
+        cancelled: count_cancelled(journal),
+        voided: count_voided(journal),
+        periods: count_closed(journal),
+        items,
+        acked: last_acked(journal),
+        version: version_of(journal),
+    })
+}
+
+// The first numbers of a terminal's line.
+#[tactic(auto, unfolding(crate::specs::Report::sales_text))]
+fn sales_piece(alloc: Global, counts: Counts) -> Result<String, AllocError>
+    ensures { IfOk result (λ t. string_bytes t ≡ sales_text counts) }
+{
+    let sales = counts.sales;
+    let completed = counts.completed;
+    let cancelled = counts.cancelled;
+    let voided = counts.voided;
     format!(in alloc;
-        " sales {sales} completed {completed} cancelled 0 voided 0 periods 0 items {items} acked {acked} set 0\n"
+        " sales {sales} completed {completed} cancelled {cancelled} voided {voided} periods "
     )
+}
+
+// The last numbers of a terminal's line.
+#[tactic(auto, unfolding(crate::specs::Report::items_text))]
+fn items_piece(alloc: Global, counts: Counts) -> Result<String, AllocError>
+    ensures { IfOk result (λ t. string_bytes t ≡ items_text counts) }
+{
+    let periods = counts.periods;
+    let items = counts.items;
+    let acked = counts.acked;
+    let version = counts.version;
+    format!(in alloc; "{periods} items {items} acked {acked} set {version}\n")
 }
 
 // Appends the line of the terminal.
@@ -143,19 +113,19 @@ fn put_terminal(
     alloc: Global,
     text: &mut Vec<u8>,
     id: &Ident,
-    world: &World,
-) -> Result<(), AllocError>
-    ensures { OnOk result (text.new.items ≡ text.old.items ++ terminal_text id.now world.now) }
+    journal: &[TermEntry],
+) -> Result<(), Memory>
+    requires { Legal journal.now }
+    ensures { OnOk result (text.new.items ≡ text.old.items ++ terminal_text id.now journal.now) }
 {
-    let journal = world.journal.as_slice();
-    let sales = count_begun(journal);
-    let completed = count_completed(journal);
-    let items = items_of(alloc, journal)?.len();
-    let acked = last_acked(journal);
-    let piece = terminal_piece(alloc, sales, completed, items, acked)?;
+    let counts = counts_of(alloc, journal)?;
+    let sales = sales_piece(alloc, counts)?;
+    let items = items_piece(alloc, counts)?;
     put(text, "terminal ")?;
     put_bytes(text, id.as_bytes())?;
-    put(text, piece.as_str())
+    put(text, sales.as_str())?;
+    put(text, items.as_str())?;
+    Ok(())
 }
 
 // The numbers of the host's line.
@@ -169,16 +139,16 @@ fn host_piece(alloc: Global, len: usize, count: usize, sum: u128) -> Result<Stri
     format!(in alloc; " log {len} captured {count} {whole}.{tenths}{hundredths}\n")
 }
 
-// Appends the line of the host.
-fn put_host(alloc: Global, text: &mut Vec<u8>, id: &Ident, world: &World) -> Result<(), AllocError>
-    ensures { OnOk result (text.new.items ≡ text.old.items ++ host_text id.now world.now) }
+// Appends the line of a terminal's log.
+fn put_host(alloc: Global, text: &mut Vec<u8>, id: &Ident, taken: &[Item]) -> Result<(), Memory>
+    ensures { OnOk result (text.new.items ≡ text.old.items ++ host_text id.now taken.now) }
 {
-    let taken = log_of(alloc, world.entries.as_slice())?;
-    let captured = capture_of(alloc, &taken)?;
+    let captured = capture_of(alloc, taken)?;
     let piece = host_piece(alloc, taken.len(), captured.len(), sum_of(&captured))?;
     put(text, "host ")?;
     put_bytes(text, id.as_bytes())?;
-    put(text, piece.as_str())
+    put(text, piece.as_str())?;
+    Ok(())
 }
 
 // Appends the verdict.
@@ -186,55 +156,39 @@ fn put_verdict(
     alloc: Global,
     text: &mut Vec<u8>,
     id: &Ident,
-    world: &World,
-) -> Result<(), AllocError>
-    ensures { OnOk result (text.new.items ≡ text.old.items ++ verdict_text id.now world.now) }
+    journal: &[TermEntry],
+    taken: &[Item],
+) -> Result<(), Memory>
+    requires { Legal journal.now }
+    ensures { OnOk result (text.new.items ≡ text.old.items ++ verdict_text id.now journal.now taken.now) }
 {
-    let items = items_of(alloc, world.journal.as_slice())?.len();
-    let taken = log_of(alloc, world.entries.as_slice())?.len();
+    let items = items_of(alloc, journal)?.len();
     put(text, "verdict ")?;
     put_bytes(text, id.as_bytes())?;
-    if items <= taken {
-        return put(text, " agree\n");
+    if items <= taken.len() {
+        put(text, " agree\n")?;
+        return Ok(());
     }
-    let behind = items - taken;
+    let behind = items - taken.len();
     let piece = format!(in alloc; " behind {behind}\n")?;
-    put(text, piece.as_str())
+    put(text, piece.as_str())?;
+    Ok(())
 }
 
-// Does what a line asks for, and appends its outcome.
-fn put_line(
+/// Appends the report on the terminal at this place.
+pub fn put_end(
     alloc: Global,
     text: &mut Vec<u8>,
-    terminal: &TerminalLine,
-    world: &mut World,
-    numbered: &Numbered,
-) -> Result<(), AllocError>
-    ensures world { OnOk result (world.new ≡ (act terminal.now.max terminal.now.floor world.old numbered.now.action).0) }
-    ensures text { OnOk result (text.new.items ≡ text.old.items ++ outcome_line numbered.now.line (act terminal.now.max terminal.now.floor world.old numbered.now.action).1) }
+    id: &Ident,
+    journal: &[TermEntry],
+    entries: &[HostEntry],
+    place: u8,
+) -> Result<(), Memory>
+    requires { Legal journal.now }
+    ensures { OnOk result (text.new.items ≡ text.old.items ++ end_text id.now journal.now (log entries.now place)) }
 {
-    let outcome = world.act(alloc, terminal.max, terminal.floor, numbered.action)?;
-    put_outcome(alloc, text, numbered.line, &outcome)
-}
-
-// Appends the report of the last world.
-fn put_world(alloc: Global, text: &mut Vec<u8>, id: &Ident, world: &World) -> Result<(), AllocError>
-    ensures { OnOk result (text.new.items ≡ text.old.items ++ world_text id.now world.now) }
-{
-    put_terminal(alloc, text, id, world)?;
-    put_host(alloc, text, id, world)?;
-    put_verdict(alloc, text, id, world)
-}
-
-/// The text of a schedule's run: a line for each action, and then the report.
-pub fn report_of(alloc: Global, schedule: &Schedule) -> Result<Vec<u8>, AllocError>
-    ensures { IfOk result (λ text. text.items ≡ report schedule.now) }
-{
-    let mut world = World::new(alloc)?;
-    let mut text = Vec::new(alloc);
-    for numbered in schedule.actions.as_slice() {
-        put_line(alloc, &mut text, &schedule.terminal, &mut world, numbered)?;
-    }
-    put_world(alloc, &mut text, &schedule.terminal.id, &world)?;
-    Ok(text)
+    let taken = log_of(alloc, entries, place)?;
+    put_terminal(alloc, text, id, journal)?;
+    put_host(alloc, text, id, &taken)?;
+    put_verdict(alloc, text, id, journal, &taken)
 }

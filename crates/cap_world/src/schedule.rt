@@ -2,58 +2,62 @@ ghost use Rattle.cap_world.specs.declared.schedule.ScheduleFault.TheVariants.{Me
 ghost use Rattle.std.specs.Prelude.{◌≡◌};
 
 use cap_base::{Account, Amount, Ident};
+use cap_entries::{Blocks, HostSetup, TermSetup};
 use sqlite_items::Items;
 use std::alloc::AllocError;
 
-/// What an action line asks for.
+/// What a line asks for, of the terminal at a place, from 0, or of the host.
 #[derive(Clone, Copy, Debug, PartialEq, Eq)]
 pub enum Action {
     /// Begin a sale, and complete it offline where the floor allows it.
-    Sale { amount: Amount, account: Account },
+    Sale {
+        terminal: u64,
+        amount: Amount,
+        account: Account,
+    },
     /// Send the first item of the queue.
-    Push,
-    /// Deliver the message with this number, from 1, to the host.
-    Up(u64),
+    Push {
+        terminal: u64,
+    },
+    /// Deliver the message with this number, from 1, of the terminal to the host.
+    Up {
+        terminal: u64,
+        which: u64,
+    },
     /// Deliver the answer with this number, from 1, to the terminal.
-    Down(u64),
+    Down {
+        terminal: u64,
+        which: u64,
+    },
 }
 
-/// An action with the number of its line.
+/// An action line with its number.
 #[derive(Clone, Copy, Debug, PartialEq, Eq)]
-pub struct Numbered {
-    pub line: u64,
+pub struct Line {
+    pub number: u64,
     pub action: Action,
 }
 
 /// The host line.
-#[derive(Clone, Copy, Debug, PartialEq, Eq)]
+#[derive(Debug, Drop)]
 pub struct HostLine {
     pub id: Ident,
     pub limit: Amount,
+    pub blocked: Blocks,
     /// Minutes between two polls.
     pub poll: u64,
 }
 
-/// A terminal line.
-#[derive(Clone, Copy, Debug, PartialEq, Eq)]
-pub struct TerminalLine {
-    pub id: Ident,
-    /// How many sales it may begin.
-    pub max: u64,
-    /// Up to how many hundredths a sale may be completed offline.
-    pub floor: u64,
-}
-
-/// A whole schedule.
-#[derive(Drop)]
+/// A whole schedule: how both ends are set up, and the action lines.
+#[derive(Debug, Drop)]
 pub struct Schedule {
-    pub host: HostLine,
-    pub terminal: TerminalLine,
-    pub actions: Items<Numbered>,
+    pub host: HostSetup,
+    pub terminal: TermSetup,
+    pub lines: Items<Line>,
 }
 
 /// A schedule as far as it was read.
-#[derive(Drop)]
+#[derive(Debug, Drop)]
 pub enum Draft {
     Empty,
     Hosted(HostLine),

@@ -128,19 +128,35 @@ fn cut_anywhere(rt: HostRuntime) -> Result<(), Fail> {
     Ok(())
 }
 
+// What is shown of document X, which has 411 bytes, behind so many spaces.
+fn shown_behind(alloc: Global, spaces: usize) -> Result<Outcome, AllocError> {
+    let mut input = Pieces {
+        spaces,
+        front: X.as_bytes(),
+        back: b"",
+    };
+    outcome_of(alloc, &["show"], &mut input, &[])
+}
+
 #[test]
-fn limits(rt: HostRuntime) -> Result<(), Fail> {
+fn most_bytes(rt: HostRuntime) -> Result<(), Fail> {
+    let Outcome { status, written } = shown_behind(rt.alloc(), 16_777_216 - 411)?;
+    assert_eq!(rt; status, Status::Done);
+    assert!(rt; written.as_slice() == X_SHOWN.as_bytes());
+    Ok(())
+}
+
+#[test]
+fn one_byte_more(rt: HostRuntime) -> Result<(), Fail> {
+    let Outcome { status, written } = shown_behind(rt.alloc(), 16_777_217 - 411)?;
+    assert_eq!(rt; status, Status::InputLimit);
+    assert!(rt; written.is_empty());
+    Ok(())
+}
+
+#[test]
+fn most_lines(rt: HostRuntime) -> Result<(), Fail> {
     let alloc = rt.alloc();
-    for (more, wanted, shown) in [(0, Status::Done, X_SHOWN), (1, Status::InputLimit, "")] {
-        let mut input = Pieces {
-            spaces: 16_777_216 - 411 + more,
-            front: X.as_bytes(),
-            back: b"",
-        };
-        let Outcome { status, written } = outcome_of(alloc, &["show"], &mut input, &[])?;
-        assert_eq!(rt; status, wanted);
-        assert!(rt; written.as_slice() == shown.as_bytes());
-    }
     // the document stands in the last line
     for (feeds, wanted, shown) in [
         (99_999, Status::Done, X_SHOWN),

@@ -24,7 +24,7 @@ use Rattle.cap_plain.specs.Counted.{few_sales, few_cancels, sum_period}
 use Rattle.cap_plain.specs.Once.{end_new}
 use Rattle.cap_host_index.specs.Places.{places_of, sale_place, noted_place, captured_place, captured_places}
 use Rattle.cap_host_index.specs.PlacesLaws.{length-places, places-push}
-use Rattle.cap_host_index.specs.CapturedLaws.{is_sale, no_sale, not_cancelled, cancel_fits, first_some, sale_place-append, sale_place_none, sold_ends, captured_place_none, captured_places_cancel, captured_places_other}
+use Rattle.cap_host_index.specs.CapturedLaws.{is_sale, ended_new, no_sale, not_cancelled, cancel_fits, first_some, sale_place-append, sale_place_none, sold_ends, captured_place_none, captured_places_cancel, captured_places_other}
 use Rattle.cap_host_index.specs.Periods.{Periods, nothing, period_push, period_close}
 use Rattle.cap_host_index.specs.Noted.{Tallies, IsNoted, IsIndex, running_after, closed_after, without, kept_after}
 use Rattle.cap_host_index.specs.declared.index.LogIndex.{LogIndex}
@@ -89,16 +89,6 @@ noted_more log rest item x y t ok ended captured kept running closed =
           subst (λ (r : Totals). Periods log r y.closed.items) (sym running)
           (subst (λ (c : List Totals). Periods log x.running c) (sym closed) t.periods);
     }
-
--- numbers of items that fit behind a list are new to it
-ended_new : (before items : List Item) (n : ℕ) → all_fit before items ≡ true → list_any (is_end n) items ≡ true → list_any (is_end n) before ≡ false
-ended_new before [] n fit e = absurd (false≢true e)
-ended_new before (item ∷ items) n fit e =
-    let parts = and_parts (fits before item) (all_fit (before ++ item ∷ []) items) fit in
-    ⊎_elim
-    (λ here. end_new n before item parts.0 here)
-    (λ later. (or_parts (list_any (is_end n) before) (list_any (is_end n) (item ∷ [])) (sym (list_any-append (is_end n) before (item ∷ [])) ∙ ended_new (before ++ item ∷ []) items n parts.1 later)).0)
-    (or_cases (is_end n item) (list_any (is_end n) items) e)
 
 -- no place of a number that has no end
 unplaced : (log : List Item) (n : ℕ) → list_any (is_end n) log ≡ false → captured_place log n ≡ None

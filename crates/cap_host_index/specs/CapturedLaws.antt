@@ -98,6 +98,16 @@ cancelled_ended log fit = along CancelledEnded cancelled_step [] log (λ n e. ab
 pub not_cancelled : (log : List Item) (n : ℕ) → all_fit [] log ≡ true → list_any (is_end n) log ≡ false → list_any (is_cancel n) log ≡ false
 not_cancelled log n fit none = false_from_ne_true _ (λ e. both_ways _ none (cancelled_ended log fit n e))
 
+-- numbers of items that fit behind a list are new to it
+pub ended_new : (before items : List Item) (n : ℕ) → all_fit before items ≡ true → list_any (is_end n) items ≡ true → list_any (is_end n) before ≡ false
+ended_new before [] n fit e = absurd (false≢true e)
+ended_new before (item ∷ items) n fit e =
+    let parts = and_parts (fits before item) (all_fit (before ++ item ∷ []) items) fit in
+    ⊎_elim
+    (λ here. end_new n before item parts.0 here)
+    (λ later. (or_parts (list_any (is_end n) before) (list_any (is_end n) (item ∷ [])) (sym (list_any-append (is_end n) before (item ∷ [])) ∙ ended_new (before ++ item ∷ []) items n parts.1 later)).0)
+    (or_cases (is_end n item) (list_any (is_end n) items) e)
+
 -- the first of two options that is there
 abbrev pub first_some : Option ℕ → Option ℕ → Option ℕ
 first_some None other = other

@@ -81,7 +81,7 @@ impl LogIndex {
     ghost use Rattle.std.specs.BTreeMap.{get};
     ghost use Rattle.cap_base.specs.declared.item.Item.{Item};
     ghost use Rattle.cap_base.specs.Item.{is_end, is_cancel, is_any_close, is_sale_of};
-    ghost use Rattle.cap_base.specs.Captured.{captured, totals};
+    ghost use Rattle.cap_base.specs.Captured.{captured, period_totals, totals};
     ghost use Rattle.cap_base.specs.Fits.{all_fit};
     ghost use Rattle.cap_entries.specs.declared.host.HostEntry.{HostEntry};
     ghost use Rattle.cap_entries.specs.declared.host.HostEntry.TheVariants.{Took};
@@ -106,7 +106,8 @@ impl LogIndex {
 
     /// How many items the log has.
     pub fn len(&self) -> u64
-        ensures { (entries : List HostEntry) (terminal : ℕ) → IsIndex entries terminal self.now → result ≡ length (log entries terminal) }
+        ensures small { result < 2 ^ 63 }
+        ensures value { (entries : List HostEntry) (terminal : ℕ) → IsIndex entries terminal self.now → result ≡ length (log entries terminal) }
     {
         self.places.len() as u64
     }
@@ -156,6 +157,13 @@ impl LogIndex {
         ensures { (entries : List HostEntry) (terminal : ℕ) → IsIndex entries terminal self.now → result ≡ count_by is_any_close (log entries terminal) }
     {
         self.closed.len() as u64
+    }
+
+    /// The totals of the period that is open.
+    pub fn running(&self) -> Totals
+        ensures { (entries : List HostEntry) (terminal : ℕ) → IsIndex entries terminal self.now → result ≡ period_totals (log entries terminal) (count_by is_any_close (log entries terminal) + 1) }
+    {
+        self.running
     }
 
     /// The totals of period p; None exactly where it is not closed.

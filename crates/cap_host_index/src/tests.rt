@@ -68,6 +68,7 @@ fn five_items(rt: HostRuntime) -> Result<(), Fail> {
     assert_eq!(rt; index.captured_entry(0), Some(12));
     assert_eq!(rt; index.captured_entry(1), None);
     assert_eq!(rt; index.closes(), 1);
+    assert_eq!(rt; index.running().sales, 0);
     assert_eq!(rt; index.totals(0), None);
     assert_eq!(rt; index.totals(1), Some(closing(1_350)));
     assert_eq!(rt; index.totals(2), None);

@@ -1,5 +1,5 @@
 -- What calls say that are made one after another.
-use Rattle.std.proofs.Common.{◌≡◌, ◌⊎◌, ℕ, ◌+◌, ◌≤◌, false, List, [], ◌++◌, Option, Some, None, refl, sym, ◌∙◌, ap, subst, inl, inr, ⊎_elim, arith, append-nil}
+use Rattle.std.proofs.Common.{true, ◌≡◌, ◌⊎◌, ℕ, ◌+◌, ◌≤◌, false, List, [], ◌++◌, Option, Some, None, refl, sym, ◌∙◌, ap, subst, inl, inr, ⊎_elim, arith, append-nil}
 use Rattle.std.specs.Prelude.{Result, Ok, Err, IsOk, OnOk, OnErr, IsErrOf, IsTrue}
 use Rattle.cap_base.specs.Causes.{Rose}
 use Rattle.std.specs.declared.clone.Clone.{Ghosts as CloneGhosts}
@@ -10,7 +10,7 @@ use Rattle.cap_journal.specs.File.{HasEither}
 use Rattle.cap_journal.specs.Seen.{CountsTrying, IsTrying}
 use Rattle.cap_journal.specs.Told.{IsQuiet}
 use Rattle.cap_host_ledger.specs.declared.fault.HostFault.{HostFault}
-use Rattle.cap_host_ledger.specs.declared.fault.HostFault.TheVariants.{Disk, Memory}
+use Rattle.cap_host_ledger.specs.declared.fault.HostFault.TheVariants.{Disk, Failed, Memory}
 use Rattle.cap_host_ledger.specs.declared.ledger.Ledger.{Ledger}
 use Rattle.cap_host_ledger.specs.Ledger.{calls_for, Stays, OnlyReads, Adds}
 
@@ -20,6 +20,12 @@ rose_later a b c le rose = omega (arith, le, rose)
 
 no_fault : {T : Type 0} (v : T) (fault : HostFault) → IsErrOf {E = HostFault} (Ok v) fault → ⊥
 no_fault v fault is = cc
+
+same_fault : {S T : Type 0} (e fault : HostFault) → IsErrOf {T = T} {E = HostFault} (Err e) fault → IsErrOf {T = S} {E = HostFault} (Err e) fault
+same_fault {S = S} {T = T} e fault is = let same : e ≡ fault = cc in ap (λ (f : HostFault). let r : Result S HostFault = Err f in r) same
+
+lacks_no_other : {T : Type 0} (fault : HostFault) → (Memory ≡ fault → ⊥) → IsErrOf {T = T} {E = HostFault} (Err Memory) fault → ⊥
+lacks_no_other fault other is = other (let same : Memory ≡ fault = cc in same)
 
 ok_from : {T : Type 0} (result : Result T HostFault) {P Q : Type 0} → (P → Q) → OnOk result P → OnOk result Q
 ok_from (Ok v) f p = f p
@@ -140,3 +146,144 @@ module _ {E J : Type 0} {r : RecordGhosts E} {c : CloneGhosts E} {g : Ghosts J E
         goes_on = λ would within. absurd (would.1 refl);
         other = λ no' no''. same;
       }
+
+  -- another value is given
+  pub reads_give : (old new : Ledger E J r c g) {S T : Type 0} (v : S) (w : T) → OnlyReads old new (Ok v) → OnlyReads old new (Ok w)
+  reads_give old new v w reads = record {
+    stays = record {
+      faults = reads.stays.faults;
+      disk = λ is. absurd (no_fault w Disk is);
+      fails = λ is. absurd (no_fault w Disk is);
+      still = λ no'. reads.stays.still (no_fault v Disk);
+      is_readable = reads.stays.is_readable;
+      tells = reads.stays.tells;
+      refused = tt;
+    };
+    entries = reads.entries;
+    never_failed = no_fault w Failed;
+    counts = reads.counts;
+    quiet = never (g.counts old.journal);
+    images = reads.images;
+    leaves = reads.leaves;
+  }
+    where
+    never : (k : Option Counts) → IsQuiet k (IsErrOf {E = HostFault} (Ok w) Disk)
+    never None = tt
+    never (Some k) = no_fault w Disk
+
+  -- the same fault, where another value was to be given
+  pub reads_fail : (old new : Ledger E J r c g) {S T : Type 0} (e : HostFault) → OnlyReads old new {T = S} (Err e) → OnlyReads old new {T = T} (Err e)
+  reads_fail old new {S = S} {T = T} e reads = record {
+    stays = record {
+      faults = reads.stays.faults;
+      disk = λ is. reads.stays.disk (same_fault {S = S} {T = T} e Disk is);
+      fails = λ is. reads.stays.fails (same_fault {S = S} {T = T} e Disk is);
+      still = λ no'. reads.stays.still (λ is. no' (same_fault {S = T} {T = S} e Disk is));
+      is_readable = reads.stays.is_readable;
+      tells = reads.stays.tells;
+      refused = reads.stays.refused;
+    };
+    entries = reads.entries;
+    never_failed = λ is. reads.never_failed (same_fault {S = S} {T = T} e Failed is);
+    counts = reads.counts;
+    quiet = quietly (g.counts old.journal) reads.quiet;
+    images = reads.images;
+    leaves = reads.leaves;
+  }
+    where
+    quietly : (k : Option Counts) → IsQuiet k (IsErrOf {T = S} {E = HostFault} (Err e) Disk) → IsQuiet k (IsErrOf {T = T} {E = HostFault} (Err e) Disk)
+    quietly None quiet = tt
+    quietly (Some k) quiet = λ is. quiet (same_fault {S = S} {T = T} e Disk is)
+
+  -- want of memory after a call that only reads
+  pub reads_lack : (old new : Ledger E J r c g) {S T : Type 0} (v : S) → OnlyReads old new (Ok v) → OnlyReads old new {T = T} (Err Memory)
+  reads_lack old new {T = T} v reads = record {
+    stays = record {
+      faults = reads.stays.faults;
+      disk = λ is. absurd (lacks_no_other {T = T} Disk (λ same. cc) is);
+      fails = λ is. absurd (lacks_no_other {T = T} Disk (λ same. cc) is);
+      still = λ no'. reads.stays.still (no_fault v Disk);
+      is_readable = reads.stays.is_readable;
+      tells = reads.stays.tells;
+      refused = reads.entries;
+    };
+    entries = reads.entries;
+    never_failed = λ is. lacks_no_other {T = T} Failed (λ same. cc) is;
+    counts = reads.counts;
+    quiet = never (g.counts old.journal);
+    images = reads.images;
+    leaves = reads.leaves;
+  }
+    where
+    answer : Result T HostFault
+    answer = Err Memory
+
+    never : (k : Option Counts) → IsQuiet k (IsErrOf answer Disk)
+    never None = tt
+    never (Some k) = λ is. lacks_no_other {T = T} Disk (λ same. cc) is
+
+  -- a call that only reads and fails adds nothing, whatever was to be added
+  pub fails_adds : (old new : Ledger E J r c g) {T : Type 0} (added : List E) (e : HostFault) → OnlyReads old new {T = T} (Err e) → Adds old new added {T = T} (Err e)
+  fails_adds old new {T = T} added e reads = record {
+    stays = reads.stays;
+    grown = tt;
+    failed = λ is. absurd (reads.never_failed is);
+    refuses = tt;
+    counts = uncounted e reads.never_failed (g.counts old.journal) (g.counts new.journal) reads.counts reads.quiet;
+    images = λ told. record {
+      later = (reads.images told).later;
+      each = λ image left. inl ((reads.images told).each image left);
+      before = λ t image le left. ⊎_elim (λ earlier. inl earlier) (λ now. inr (inl now)) ((reads.images told).before t image le left);
+    };
+  }
+    where
+    answer : HostFault → Result T HostFault
+    answer f = Err f
+
+    uncounted : (f : HostFault) → (IsErrOf (answer f) Failed → ⊥) → (a b : Option Counts) → StaysCounted a b → IsQuiet a (IsErrOf (answer f) Disk)
+        → IsTrying (calls_for added) a b (IsOk (answer f)) (IsErrOf (answer f) Disk) (IsErrOf (answer f) Memory) ((old.failed ≡ false) × (added ≡ [] → ⊥))
+    uncounted f never None b same quiet = tt
+    uncounted Disk never (Some k) b same quiet = absurd (quiet refl)
+    uncounted Failed never (Some k) b same quiet = absurd (never refl)
+    uncounted Memory never (Some k) b same quiet = λ few. record {
+      added = λ ok. absurd (let none = ok in cc);
+      stopped = λ is. absurd (quiet is);
+      goes_on = λ would within. inr refl;
+      other = λ no' no''. same;
+    }
+
+  -- where a call answered Disk, nothing is added any more
+  pub refused_adds : (old : Ledger E J r c g) {T : Type 0} (added : List E) → old.failed ≡ true → (added ≡ [] → ⊥)
+      → (IsTrue (g.tells old.journal) → LeavesOnly g.moment g.left_since old.journal old.journal (g.may_leave old.journal)) → Adds old old added {T = T} (Err Failed)
+  refused_adds old {T = T} added failed some still = record {
+    stays = record {
+      faults = omega arith;
+      disk = λ is. absurd (let other = is in cc);
+      fails = λ is. absurd (let other = is in cc);
+      still = λ no'. refl;
+      is_readable = refl;
+      tells = refl;
+      refused = refl;
+    };
+    grown = tt;
+    failed = λ is. (failed, some);
+    refuses = tt;
+    counts = untouched (g.counts old.journal);
+    images = λ told. record {
+      later = (still told).later;
+      each = λ image left. inl ((still told).each image left);
+      before = λ t image le left. ⊎_elim (λ earlier. inl earlier) (λ now. inr (inl now)) ((still told).before t image le left);
+    };
+  }
+    where
+    answer : Result T HostFault
+    answer = Err Failed
+
+    untouched : (a : Option Counts) → IsTrying (calls_for added) a a (IsOk answer) (IsErrOf answer Disk) (IsErrOf answer Memory) ((old.failed ≡ false) × (added ≡ [] → ⊥))
+    untouched None = tt
+    untouched (Some k) = λ few. record {
+      added = λ ok. absurd (let none = ok in cc);
+      stopped = λ is. absurd (let other = is in cc);
+      goes_on = λ would within. absurd (let both = sym failed ∙ would.0 in cc);
+      other = λ no' no''. refl;
+    }

@@ -2,7 +2,7 @@ ghost use Rattle.std.specs.Prelude.{◌≡◌};
 ghost use Rattle.cap_host_ledger.specs.declared.fault.HostFault.TheVariants.{Memory as NoMemory};
 
 use cap_base::Memory;
-use std::alloc::AllocError;
+use std::alloc::{AllocError, AllocFailed};
 
 /// Why a host does not answer.
 #[derive(Clone, Copy, Debug, PartialEq, Eq)]
@@ -26,6 +26,14 @@ impl From<AllocError> for HostFault {
     ghost from_gives = { λ _ e. e ≡ NoMemory };
 
     fn from(_: AllocError) -> Self {
+        HostFault::Memory
+    }
+}
+
+impl<T: Drop> From<AllocFailed<T>> for HostFault {
+    ghost from_gives = { λ _ e. e ≡ NoMemory };
+
+    fn from(_: AllocFailed<T>) -> Self {
         HostFault::Memory
     }
 }

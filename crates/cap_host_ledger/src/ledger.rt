@@ -18,9 +18,9 @@ pub struct Ledger<E: Record, J: Journal<E> + Drop> {
 }
 
 impl<E: Record, J: Journal<E> + Drop> Ledger<E, J> {
-    ghost use Rattle.std.specs.Prelude.{◌≤◌, ◌<◌, ◌+◌, ◌++◌, ◌∷◌, [], length, map, sum, All, OnOk, IfOk, IfErr, slice_get, Ok, Some, List};
+    ghost use Rattle.std.specs.Prelude.{◌≤◌, ◌<◌, ◌+◌, true, ◌++◌, ◌∷◌, [], length, map, sum, All, OnOk, IfOk, IfErr, slice_get, Ok, Err, Some, List};
     ghost use Rattle.cap_journal.specs.Spare.{Suffices};
-    ghost use Rattle.cap_host_ledger.specs.declared.fault.HostFault.TheVariants.{Disk, Memory};
+    ghost use Rattle.cap_host_ledger.specs.declared.fault.HostFault.TheVariants.{Disk, Failed, Memory};
     ghost use Rattle.cap_host_ledger.specs.Ledger.{journal_in, has_failed, entries_in, spare_in, fetched_in, is_readable, OnlyReads, Adds};
 
     /// A journal that has not failed.
@@ -63,6 +63,23 @@ impl<E: Record, J: Journal<E> + Drop> Ledger<E, J> {
         ensures reads { OnlyReads self.now self.now result }
     {
         Ok(value)
+    }
+
+    /// Answers want of memory, and does nothing.
+    pub fn lack<T>(&self) -> Result<T, HostFault>
+        ensures value { result ≡ Err Memory }
+        ensures reads { OnlyReads self.now self.now result }
+    {
+        Err(HostFault::Memory)
+    }
+
+    /// Refuses to add anything, where a call answered `Disk`.
+    pub fn refuse<T>(&self) -> Result<T, HostFault>
+        requires { has_failed self.now ≡ true }
+        ensures value { result ≡ Err Failed }
+        ensures adds { (added : List E) → (added ≡ [] → ⊥) → Adds self.now self.now added result }
+    {
+        Err(HostFault::Failed)
     }
 
     /// Gives an entry; they count from 0. `Memory` also comes where the journal no longer reads what was written.

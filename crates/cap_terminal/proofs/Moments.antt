@@ -1,6 +1,6 @@
 -- What may be left during two calls in a row.
-use Rattle.std.proofs.Common.{ℕ, List, inl, inr, ⊎_elim, arith}
-use Rattle.cap_disk.specs.Disk.{LeavesOnly}
+use Rattle.std.proofs.Common.{◌≡◌, ◌⊎◌, ℕ, ◌≤◌, List, Option, Some, None, subst, inl, inr, ⊎_elim, arith}
+use Rattle.cap_disk.specs.Disk.{Counts, LeavesOnly, StaysCounted}
 
 -- a call that leaves only what could be left before it
 pub leaves_weaker : {D : Type 0} (moment : D → ℕ) (left_since : D → ℕ → List ℕ → Type 0) (old new : D) (P Q : List ℕ → Type 0) → ((image : List ℕ) → P image → Q image) → LeavesOnly moment left_since old new P → LeavesOnly moment left_since old new Q
@@ -17,3 +17,18 @@ leaves_through moment left_since old mid new Q first second = record {
   each = λ image left. ⊎_elim (λ earlier. first.each image earlier) (λ q. q) (second.before (moment old) image first.later left);
   before = λ t image le left. ⊎_elim (λ earlier. first.before t image le earlier) (λ q. inr q) (second.before t image (omega (arith, le, first.later)) left);
 }
+
+-- before any call
+pub leaves_now : {D : Type 0} (moment : D → ℕ) (left_since : D → ℕ → List ℕ → Type 0) (now : D) (P : List ℕ → Type 0) → ((image : List ℕ) → left_since now (moment now) image → P image) → LeavesOnly moment left_since now now P
+leaves_now moment left_since now P only = record { later = omega arith; each = only; before = λ t image le left. inl left }
+
+-- two calls that each leave only what could be left before them
+pub leaves_same : {D : Type 0} (moment : D → ℕ) (left_since : D → ℕ → List ℕ → Type 0) (may_leave : D → List ℕ → Type 0) (old mid new : D) → ((image : List ℕ) → may_leave mid image → left_since mid (moment old) image)
+    → LeavesOnly moment left_since old mid (may_leave old) → LeavesOnly moment left_since mid new (may_leave mid) → LeavesOnly moment left_since old new (may_leave old)
+leaves_same moment left_since may_leave old mid new here first second =
+    leaves_through moment left_since old mid new (may_leave old) first
+    (leaves_weaker moment left_since mid new (may_leave mid) (may_leave old) (λ image left. first.each image (here image left)) second)
+
+pub stays_through : (a b c : Option Counts) → StaysCounted a b → StaysCounted b c → StaysCounted a c
+stays_through None b c first second = tt
+stays_through (Some counts) b c first second = subst (λ (o : Option Counts). StaysCounted o c) first second

@@ -1,6 +1,6 @@
 -- What an entry needs: the index is ready, and there is room.
-use Rattle.std.proofs.Common.{◌≡◌, ◌⊎◌, ℕ, ◌+◌, ◌-◌, ◌≤◌, ◌<◌, true, false, not, ◌&&◌, List, [], ◌∷◌, length, refl, sym, ◌∙◌, ap, subst, inl, inr, arith, IsSome, IfSome, Option, Some, None, ⊎_elim, eq-eqb, leb-true, le-leb}
-use Rattle.std.specs.Prelude.{count_by, sum_by, ◌==◌, nat_le, nat_lt, option_and_then}
+use Rattle.std.proofs.Common.{◌≡◌, ◌⊎◌, ℕ, ◌+◌, ◌-◌, ◌≤◌, ◌<◌, Bool, true, false, cond, not, ◌&&◌, List, [], ◌∷◌, ◌++◌, length, refl, sym, ◌∙◌, ap, subst, inl, inr, arith, get_or, slice_index_or, IsSome, IfSome, Option, Some, None, ⊎_elim, eq-eqb, leb-true, le-leb, ltb-true}
+use Rattle.std.specs.Prelude.{count_by, sum_by, ◌==◌, nat_le, nat_lt, option_and_then, MatchOption}
 use Rattle.std.specs.List.{list_any}
 use Rattle.std.proofs.lemmas.Bool.{cond-true, cond-false, cases_Bool, false≢true, and_parts, and_from, not-true, lt-ltb, cond_both}
 use Rattle.std.proofs.lemmas.List.Sums.{get_or-le-sum_by}
@@ -9,7 +9,7 @@ use Rattle.cap_journal.specs.declared.spare.Spare.{Spare}
 use Rattle.cap_journal.specs.Spare.{Suffices, Takes, NoLower, less, less_one}
 use Rattle.cap_entries.specs.declared.terminal.TermEntry.{TermEntry}
 use Rattle.cap_entries.specs.declared.terminal.TermEntry.TheVariants.{Setup, Begin, Declined, Completed, Voided, Cancelled, Closed, Acked, Part}
-use Rattle.cap_entries.specs.Entry.{is_pending, is_begin, is_any_begin, is_any_closed, max_of, is_completed, is_cancelled}
+use Rattle.cap_entries.specs.Entry.{is_pending, ends, is_begin, is_any_begin, is_any_closed, max_of, is_completed, is_cancelled}
 use Rattle.cap_entries.specs.Items.{items}
 use Rattle.cap_entries.specs.Acked.{acked}
 use Rattle.cap_entries.specs.Allowed.{allowed, is_legal}
@@ -24,7 +24,21 @@ use Rattle.cap_terminal.specs.View.{index_view}
 use Rattle.cap_terminal.specs.Ready.{IsReady, IsAt, freed, more_owed}
 use Rattle.cap_terminal.specs.Room.{HasRoom, HasOtherRoom, wanted}
 use Rattle.cap_terminal.specs.Says.{Says, sale_at}
-use Rattle.cap_terminal.proofs.Growth.{after_setup}
+use Rattle.cap_terminal.specs.Pending.{waits, WaitsNoneFrom, IsLeastWaiting}
+use Rattle.cap_terminal.specs.Live.{PendsNoneFrom, IsLeastPending}
+use Rattle.cap_terminal.proofs.Waiting.{zero_or}
+use Rattle.cap_base.specs.declared.item.Totals.{Totals}
+use Rattle.cap_base.specs.Item.{is_close}
+use Rattle.cap_base.specs.Captured.{totals}
+use Rattle.cap_entries.specs.Entry.{term_setup_of}
+use Rattle.cap_entries.specs.Floor.{floor}
+use Rattle.cap_terminal.specs.declared.counts.Counts.{Counts}
+use Rattle.cap_terminal.specs.Counts.{counts_of, is_any_completed, is_any_cancelled, is_any_voided}
+use Rattle.cap_terminal.specs.Running.{closed_at, nothing}
+use Rattle.cap_terminal.specs.SetsIndex.{floor_or}
+use Rattle.cap_terminal.proofs.Counters.{completed_is, cancelled_is, voided_is}
+use Rattle.cap_terminal.proofs.Set_ties.{SetTies, set_ties_of, floor_is}
+use Rattle.cap_terminal.proofs.Growth.{after_setup, own_floor_is}
 use Rattle.cap_terminal.proofs.Ties.{Ties, ties_of, pending_at, completed_at}
 
 -- one entry of a size, where there is a small one to take, and it is small or there is a large one
@@ -154,6 +168,30 @@ module _ (entries : List TermEntry) (x : Index) (view : index_view x ≡ index_o
   pub may_close : (p : ℕ) → p ≡ count_by is_any_closed entries + 1 → p ≤ 250000 → allowed entries (Closed p) ≡ true
   may_close p is le = after_setup entries (Closed p) legal ∙ and_from (p == count_by is_any_closed entries + 1) (nat_le p 250000) (eq-eqb p _ is) (le-leb p 250000 le)
 
+  pub sets_here : SetTies entries x.sets
+  sets_here = subst (λ (y : TerminalIndex). SetTies entries y.sets) (sym view) (set_ties_of entries legal)
+
+  pub floor_here : floor_or x.sets.floor (term_setup_of entries).floor ≡ floor entries
+  floor_here = floor_is entries x.sets (term_setup_of entries).floor sets_here (sym (own_floor_is entries))
+
+  pub totals_here : (p : ℕ) → closed_at x.closed.items p ≡ totals (items entries) p
+  totals_here p =
+      cond_both (nat_le 1 p && nat_le p (length x.closed.items)) (Some (slice_index_or x.closed.items (p - 1) nothing)) None (λ o. o ≡ totals (items entries) p)
+      (λ within.
+      let range = and_parts (nat_le 1 p) (nat_le p (length x.closed.items)) within in
+      ap (λ (t : Totals). Some t) (ties_here.periods.closed_are p nothing (leb-true 1 p range.0) (leb-true p (length x.closed.items) range.1))
+      ∙ sym (cond-true (list_any (is_close p) (items entries)) _ _ (ties_here.periods.close p ∙ within)))
+      (λ outside. sym (cond-false (list_any (is_close p) (items entries)) _ _ (ties_here.periods.close p ∙ outside)))
+
+  pub counts_here : ◌≡◌ {A = Counts} (record { sales = length x.sales.items; completed = x.completed; cancelled = x.cancelled; voided = x.voided; periods = length x.closed.items }) (counts_of entries)
+  counts_here =
+      let a = ties_here.count in
+      let b : x.completed ≡ count_by is_any_completed entries = ap (λ (y : TerminalIndex). y.completed) view ∙ completed_is entries in
+      let d : x.cancelled ≡ count_by is_any_cancelled entries = ap (λ (y : TerminalIndex). y.cancelled) view ∙ cancelled_is entries in
+      let e : x.voided ≡ count_by is_any_voided entries = ap (λ (y : TerminalIndex). y.voided) view ∙ voided_is entries in
+      let f = ties_here.closes in
+      cc
+
   pub acked_is : x.acked ≡ acked entries
   acked_is = ties_here.acked_is
 
@@ -162,6 +200,30 @@ module _ (entries : List TermEntry) (x : Index) (view : index_view x ≡ index_o
 
   pub may_ack : (m : ℕ) → acked entries < m → m ≤ length (items entries) → allowed entries (Acked m) ≡ true
   may_ack m above within = after_setup entries (Acked m) legal ∙ and_from (nat_lt (acked entries) m) (nat_le m (length (items entries))) (lt-ltb (acked entries) m above) (le-leb m (length (items entries)) within)
+
+-- what the index has of pending sales says what the entries say
+module _ (entries : List TermEntry) (x : Index) (view : index_view x ≡ index_of entries) (legal : is_legal entries ≡ true) where
+  pends_here : (n : ℕ) → waits x.sales.items n ≡ is_pending entries n
+  pends_here n = at n (zero_or n)
+    where
+      ties : Ties entries (index_view x)
+      ties = ties_here entries x view legal
+
+      at : (n : ℕ) → (n ≡ 0) ⊎ (1 ≤ n) → waits x.sales.items n ≡ is_pending entries n
+      at n (inl zero) =
+          subst (λ (m : ℕ). waits x.sales.items m ≡ is_pending entries m) (sym zero) (sym (ap (λ b. b && not (list_any (ends 0) entries)) (ties.begun 0)))
+      at n (inr low) =
+          sym
+          (ap (λ b. b && not (list_any (ends n) entries)) (ties.begun n)
+          ∙ ap (λ b. (nat_le 1 n && nat_le n (length x.sales.items)) && not b) (ties.row n low).ended)
+
+  pub least_here : (n : ℕ) (found : Option ℕ) → MatchOption found (WaitsNoneFrom x.sales.items n) (λ k. IsLeastWaiting x.sales.items n k) → MatchOption found (PendsNoneFrom entries n) (λ k. IsLeastPending entries n k)
+  least_here n None none = λ k from. sym (pends_here k) ∙ none k from
+  least_here n (Some k) least = record {
+    from = least.from;
+    pending = sym (pends_here k) ∙ least.pending;
+    least = λ q from below. sym (pends_here q) ∙ least.least q from below;
+  }
 
 -- the journal's small entries are reserved
 pub room_reserved : (x : Index) (old new : Spare) (entry : TermEntry) (more : ℕ) → more ≡ wanted entry → HasOtherRoom x old entry → x.owed + more ≤ new.small → NoLower old new → HasRoom x new entry

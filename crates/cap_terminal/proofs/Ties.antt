@@ -200,10 +200,10 @@ completed_at entries x n ties h c =
     (range.0, range.1, completed_stage _ (sym row.done ∙ h) (sym row.back ∙ c))
 
 -- reading the sales after a change
-staged_same : (sales : List SaleRow) (n : ℕ) (stage : Stage) → 1 ≤ n → n ≤ length sales → row_of (staged sales n stage) n ≡ at_stage (row_of sales n) stage
+pub staged_same : (sales : List SaleRow) (n : ℕ) (stage : Stage) → 1 ≤ n → n ≤ length sales → row_of (staged sales n stage) n ≡ at_stage (row_of sales n) stage
 staged_same sales n stage low high = get_or-set_same sales (n - 1) (at_stage (row_of sales n) stage) blank_row (omega (arith, low, high))
 
-staged_other : (sales : List SaleRow) (n m : ℕ) (stage : Stage) → 1 ≤ n → 1 ≤ m → (m ≡ n → ⊥) → row_of (staged sales n stage) m ≡ row_of sales m
+pub staged_other : (sales : List SaleRow) (n m : ℕ) (stage : Stage) → 1 ≤ n → 1 ≤ m → (m ≡ n → ⊥) → row_of (staged sales n stage) m ≡ row_of sales m
 staged_other sales n m stage low low' ne = get_or-set_other sales (n - 1) (m - 1) (at_stage (row_of sales n) stage) blank_row (λ e. ne (omega (arith, e, low, low')))
 
 -- no entry but these is of a sale
@@ -211,14 +211,14 @@ record Silent (entry : TermEntry) : Type 0 where
   passes : (n : ℕ) → Passes n entry
   no_begin : is_any_begin entry ≡ false
 
-isnt_same : (k n : ℕ) → (k ≡ n → ⊥) → (k == n) ≡ false
+pub isnt_same : (k n : ℕ) → (k ≡ n → ⊥) → (k == n) ≡ false
 isnt_same k n ne = false_or (k == n) (λ h. ne (eqb-true k n h))
   where
     false_or : (b : Bool) → (b ≡ true → ⊥) → b ≡ false
     false_or true h = absurd (h refl)
     false_or false h = refl
 
-same_or_not : (k n : ℕ) → (k ≡ n) ⊎ (k ≡ n → ⊥)
+pub same_or_not : (k n : ℕ) → (k ≡ n) ⊎ (k ≡ n → ⊥)
 same_or_not k n = ⊎_elim (λ yes. inl (eqb-true k n yes)) (λ no'. inr (λ e. false≢true (sym no' ∙ eq-eqb k n e))) (cases_Bool (k == n))
 
 -- an entry of no sale
@@ -483,7 +483,7 @@ none_at_all n low = ⊎_elim (λ yes. let h : n ≤ 0 = leb-true n 0 (and_parts 
 none_in_none : (n : ℕ) → false ≡ (nat_le 1 n && nat_le n 0)
 none_in_none n = sym (⊎_elim (λ yes. let parts = and_parts (nat_le 1 n) (nat_le n 0) yes in let low : 1 ≤ n = leb-true 1 n parts.0 in let h : n ≤ 0 = leb-true n 0 parts.1 in let no' : ⊥ = omega (arith, h, low) in absurd no') (λ no'. no') (cases_Bool (nat_le 1 n && nat_le n 0)))
 
-ties_none : Ties [] (index_of [])
+pub ties_none : Ties [] (index_of [])
 ties_none = record {
   count = refl;
   begun = none_in_none;

@@ -1,5 +1,5 @@
 -- When each answer of an adding call comes. The cases exclude one another and leave none out, so each is exact.
-use Rattle.std.specs.Prelude.{◌≡◌, ℕ, ◌<◌, ◌≤◌, Bool, true, false, List, count_by, ⊤}
+use Rattle.std.specs.Prelude.{◌≡◌, ℕ, ◌<◌, ◌≤◌, Bool, true, false, List, count_by, [], ◌∷◌, ⊤, Result, Ok, Err}
 use Rattle.std.specs.List.{list_any}
 use Rattle.cap_entries.specs.declared.terminal.TermEntry.{TermEntry}
 use Rattle.cap_entries.specs.Entry.{is_begin, is_any_begin, is_any_closed, is_completed, is_cancelled, max_of}
@@ -13,6 +13,10 @@ use Rattle.cap_terminal.specs.declared.faults.EntryFault.{EntryFault}
 use Rattle.cap_terminal.specs.declared.faults.EntryFault.TheVariants as entry
 use Rattle.cap_terminal.specs.declared.faults.AskFault.{AskFault}
 use Rattle.cap_terminal.specs.declared.faults.AskFault.TheVariants as ask
+use Rattle.cap_terminal.specs.declared.handled.Handled.{Handled}
+use Rattle.cap_terminal.specs.declared.handled.TermFault.{TermFault}
+use Rattle.cap_terminal.specs.declared.handled.TermFault.TheVariants as take
+use Rattle.cap_terminal.specs.Takes.{Taken}
 
 -- the end of a sale whose token is live
 abbrev pub IsEntryCause : (has_failed : Bool) → EntryFault → Type 0
@@ -68,3 +72,40 @@ IsMemoryOrDiskAtClose close.Failed = ⊥
 IsMemoryOrDiskAtClose close.PeriodLimit = ⊥
 IsMemoryOrDiskAtClose close.Memory = ⊤
 IsMemoryOrDiskAtClose close.Disk = ⊤
+
+-- what arrived adds an entry
+abbrev pub is_adding : List TermEntry → Bool
+is_adding [] = false
+is_adding (entry ∷ entries) = true
+
+abbrev pub MayTake : (has_failed : Bool) → Taken → Type 0
+MayTake has_failed taken = (is_adding taken.added ≡ true) × (has_failed ≡ false)
+
+-- what arrived is refused as it says, or its entry was not added
+abbrev pub IsTakeCause : (has_failed : Bool) → Taken → TermFault → Type 0
+IsTakeCause has_failed taken take.Failed = (is_adding taken.added ≡ true) × (has_failed ≡ true)
+IsTakeCause has_failed taken take.Disk = MayTake has_failed taken
+IsTakeCause has_failed taken take.Memory = ⊤
+IsTakeCause has_failed taken (take.Unread fault) = taken.answer ≡ Err (take.Unread fault)
+IsTakeCause has_failed taken take.NotForUs = taken.answer ≡ Err take.NotForUs
+IsTakeCause has_failed taken (take.Rejected reason) = taken.answer ≡ Err (take.Rejected reason)
+IsTakeCause has_failed taken take.NotAwaited = taken.answer ≡ Err take.NotAwaited
+IsTakeCause has_failed taken (take.Stale m acked) = taken.answer ≡ Err (take.Stale m acked)
+IsTakeCause has_failed taken (take.Beyond m len) = taken.answer ≡ Err (take.Beyond m len)
+
+-- what may come of an entry that arrived and is allowed
+abbrev pub IsTakenCause : (has_failed : Bool) → TermFault → Type 0
+IsTakenCause has_failed take.Failed = has_failed ≡ true
+IsTakenCause has_failed take.Disk = has_failed ≡ false
+IsTakenCause has_failed take.Memory = has_failed ≡ false
+IsTakenCause has_failed _ = ⊥
+
+-- what arrived is answered Ok where it adds an entry, and else Ok or by a refusal of its own
+abbrev pub IsAnswered : List TermEntry → Result Handled TermFault → Type 0
+IsAnswered [] (Ok handled) = ⊤
+IsAnswered [] (Err take.Disk) = ⊥
+IsAnswered [] (Err take.Failed) = ⊥
+IsAnswered [] (Err take.Memory) = ⊥
+IsAnswered [] (Err _) = ⊤
+IsAnswered (entry ∷ entries) (Ok handled) = ⊤
+IsAnswered (entry ∷ entries) (Err fault) = ⊥

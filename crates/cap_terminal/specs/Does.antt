@@ -6,7 +6,7 @@ use Rattle.cap_entries.specs.declared.terminal.TermEntry.TheVariants.{Begin, Dec
 use Rattle.cap_entries.specs.Entry.{is_any_begin, is_any_closed, is_pending, amount_of, max_of}
 use Rattle.cap_entries.specs.Allowed.{allowed}
 use Rattle.cap_entries.specs.Floor.{floor}
-use Rattle.cap_terminal.specs.declared.handled.AuthResponse.{AuthResponse}
+use Rattle.cap_sale.specs.declared.response.AuthResponse.{AuthResponse}
 use Rattle.cap_terminal.specs.declared.handled.Handled.{Handled}
 use Rattle.cap_terminal.specs.declared.handled.Handled.TheVariants.{Authorisation}
 use Rattle.cap_terminal.specs.declared.handled.TermFault.{TermFault}

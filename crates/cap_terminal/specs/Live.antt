@@ -1,5 +1,5 @@
--- What makes a token live, and what may be begun and closed.
-use Rattle.std.specs.Prelude.{◌≡◌, ℕ, ◌+◌, true, List, count_by}
+-- What makes a token live, what is pending, and what may be begun and closed.
+use Rattle.std.specs.Prelude.{◌≡◌, ◌≤◌, ◌<◌, ℕ, ◌+◌, true, false, List, count_by}
 use Rattle.cap_entries.specs.declared.terminal.TermEntry.{TermEntry}
 use Rattle.cap_entries.specs.Entry.{is_any_begin, is_any_closed, is_pending, amount_of, account_of}
 
@@ -15,3 +15,13 @@ next_sale entries = count_by is_any_begin entries + 1
 
 abbrev pub open_period : List TermEntry → ℕ
 open_period entries = count_by is_any_closed entries + 1
+
+-- no sale from n on is pending
+abbrev pub PendsNoneFrom : List TermEntry → ℕ → Type 0
+PendsNoneFrom entries n = (k : ℕ) → n ≤ k → is_pending entries k ≡ false
+
+-- k is the least pending sale not below n
+pub record IsLeastPending (entries : List TermEntry) (n k : ℕ) : Type 0 where
+  pub from : n ≤ k
+  pub pending : is_pending entries k ≡ true
+  pub least : (q : ℕ) → n ≤ q → q < k → is_pending entries q ≡ false

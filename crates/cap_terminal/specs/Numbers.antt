@@ -4,7 +4,7 @@ use Rattle.std.proofs.Common.{refl, ◌∙◌, ap}
 use Rattle.cap_base.specs.declared.parameters.ConfigPart.{ConfigPart}
 use Rattle.cap_entries.specs.declared.terminal.TermEntry.{TermEntry}
 use Rattle.cap_entries.specs.declared.terminal.TermEntry.TheVariants.{Setup, Begin, Declined, Completed, Voided, Cancelled, Closed, Acked, Part}
-use Rattle.cap_entries.specs.InForce.{version_in_force, staged_from, staged_version, continues}
+use Rattle.cap_entries.specs.InForce.{version_in_force, staged_from, staged_version, staged_count, continues}
 use Rattle.cap_entries.specs.Allowed.{part_allowed}
 use Rattle.cap_terminal.specs.declared.part.PartNumbers.{PartNumbers}
 
@@ -20,6 +20,10 @@ numbers_continue (Some last) part = (part.version == last.version) && (part.part
 abbrev pub numbers_version : Option PartNumbers → ℕ
 numbers_version None = 0
 numbers_version (Some last) = last.version
+
+abbrev pub numbers_part : Option PartNumbers → ℕ
+numbers_part None = 0
+numbers_part (Some last) = last.part
 
 -- those of a part, if there is one
 abbrev pub numbers : Option ConfigPart → Option PartNumbers
@@ -59,3 +63,14 @@ numbers_allow_is entries part =
     ap (λ (last : Option PartNumbers). numbers_allow (version_in_force entries) last part) (numbers_are None entries)
     ∙ (ap (λ (n : ℕ). nat_le 1 part.part && nat_le part.part part.parts && nat_le part.parts 16 && (((part.part == 1) && nat_lt (version_in_force entries) part.version && nat_lt n part.version) || numbers_continue (numbers staged) part)) (versions_are staged)
     ∙ ap (λ (b : Bool). nat_le 1 part.part && nat_le part.part part.parts && nat_le part.parts 16 && (((part.part == 1) && nat_lt (version_in_force entries) part.version && nat_lt (staged_version staged) part.version) || b)) (continues_are staged part))
+
+-- the version whose parts are coming, and how many of them are there
+pub staged_version_is : (entries : List TermEntry) → numbers_version (numbers_of None entries) ≡ staged_version (staged_from None entries)
+staged_version_is entries = ap numbers_version (numbers_are None entries) ∙ versions_are (staged_from None entries)
+
+parts_are : (staged : Option ConfigPart) → numbers_part (numbers staged) ≡ staged_count staged
+parts_are None = refl
+parts_are (Some last) = refl
+
+pub staged_count_is : (entries : List TermEntry) → numbers_part (numbers_of None entries) ≡ staged_count (staged_from None entries)
+staged_count_is entries = ap numbers_part (numbers_are None entries) ∙ parts_are (staged_from None entries)

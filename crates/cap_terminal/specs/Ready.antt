@@ -1,11 +1,12 @@
 -- What the index needs before it follows an entry.
-use Rattle.std.specs.Prelude.{◌≡◌, ℕ, ◌+◌, ◌≤◌, ◌<◌, ⊤, length, vec_len, vec_capacity}
+use Rattle.std.specs.Prelude.{◌≡◌, ℕ, ◌+◌, ◌≤◌, ◌<◌, ⊤, true, length, vec_len, vec_capacity}
 use Rattle.cap_terminal.specs.declared.change.Change.{Change}
 use Rattle.cap_terminal.specs.declared.change.Change.TheVariants.{Nothing, Begin, Decline, Complete, GiveUp, TakeBack, Close, Acknowledge, Stage as Stage_change}
 use Rattle.cap_terminal.specs.declared.sale_row.Stage.{Stage}
 use Rattle.cap_terminal.specs.declared.sale_row.Stage.TheVariants.{Pending, Completed}
 use Rattle.cap_terminal.specs.declared.index.Index.{Index}
 use Rattle.cap_terminal.specs.Index.{row_of}
+use Rattle.cap_terminal.specs.Pending.{notes}
 
 -- this sale is there, at this stage
 pub record IsAt (x : Index) (n : ℕ) (stage : Stage) : Type 0 where
@@ -17,6 +18,7 @@ pub record HasSaleRoom (x : Index) : Type 0 where
   pub few : vec_len x.sales < 250000
   pub room : vec_len x.items + x.owed + 2 ≤ vec_capacity x.items
   pub sale_room : vec_len x.sales < vec_capacity x.sales
+  pub noted : notes x.pending (length x.sales.items + 1) ≡ true
 
 pub record HasPeriodRoom (x : Index) : Type 0 where
   pub room : vec_len x.items + x.owed + 1 ≤ vec_capacity x.items

@@ -106,6 +106,36 @@ pub(crate) fn reserve_and_add<J: Journal<TermEntry>>(
     }
 }
 
+/// The same for a part of a parameter set, whose record may be a large one. Want of memory changes nothing.
+pub(crate) fn reserve_rows_and_add<J: Journal<TermEntry>>(
+    journal: &mut J,
+    index: &mut Index,
+    failed: &mut bool,
+    part: ConfigPart,
+) -> Result<(), RoomFault>
+    requires stands { Stands (J.entries journal.old) (J.has_failed journal.old) (J.spare journal.old) index.old failed.old (IsTrue (J.tells journal.old) → EveryImage J.may_leave journal.old (HasFront term_reading (J.entries journal.old))) }
+    requires works { J.has_failed journal.old ≡ false }
+    requires allowed { allowed (J.entries journal.old) (Part part) ≡ true }
+    requires version { has_version (Part part) ≡ true }
+    ensures stands { Stands (J.entries journal.new) (J.has_failed journal.new) (J.spare journal.new) index.new failed.new (IsTrue (J.tells journal.new) → EveryImage J.may_leave journal.new (HasFront term_reading (J.entries journal.new))) }
+    ensures ok { OnOk result (J.entries journal.new ≡ J.entries journal.old ++ Part part ∷ []) }
+    ensures err { OnErr result (J.entries journal.new ≡ J.entries journal.old) }
+    ensures disk { IsErrOf result RoomFault.Disk → Rose (J.faults journal.old) (J.faults journal.new) }
+    ensures fails { IsErrOf result RoomFault.Disk → J.has_failed journal.new ≡ true }
+    ensures still_works { (IsErrOf result RoomFault.Disk → ⊥) → J.has_failed journal.new ≡ J.has_failed journal.old }
+    ensures in_images { IsTrue (J.tells journal.old) → OnOk result (EveryImageHas J.may_leave term_reading journal.new (J.entries journal.new)) }
+    ensures any_moment { IsTrue (J.tells journal.old) → J.has_failed journal.old ≡ false → LeavesOnly J.moment J.left_since journal.old journal.new (HasEither term_reading (J.entries journal.old) (J.entries journal.old ++ Part part ∷ [])) }
+    ensures in_doubt { IsTrue (J.tells journal.old) → IsErrOf result RoomFault.Disk → EveryImage J.may_leave journal.new (HasEither term_reading (J.entries journal.old) (J.entries journal.old ++ Part part ∷ [])) }
+    ensures counts { IsTrying 4 (J.counts journal.old) (J.counts journal.new) (IsOk result) (IsErrOf result RoomFault.Disk) (IsErrOf result RoomFault.Memory) (J.has_failed journal.old ≡ false) }
+    ensures tells { J.tells journal.new ≡ J.tells journal.old }
+    ensures fetched { J.fetched journal.new ≡ J.fetched journal.old }
+{
+    match journal.reserve_rows() {
+        Ok(()) => reserve_and_add(journal, index, failed, 1, TermEntry::Part(part)),
+        Err(_) => Err(RoomFault::Memory),
+    }
+}
+
 // What the types of fields say of their values, their readers tell.
 fn check_setup(setup: &TermSetup)
     ensures { has_term_types (Setup setup.now) ≡ true }

@@ -8,7 +8,7 @@ ghost use Rattle.cap_entries.specs.TermRecord.{term_reading};
 ghost use Rattle.cap_entries.specs.declared.terminal.TermEntry.TheVariants.{Begin, Cancelled, Closed};
 ghost use Rattle.cap_entries.specs.Entry.{is_any_begin, is_any_closed, is_completed, is_cancelled, amount_of, max_of};
 ghost use Rattle.cap_entries.specs.Items.{items};
-ghost use Rattle.cap_terminal.specs.Live.{next_sale, open_period};
+ghost use Rattle.cap_terminal.specs.Live.{IsLive, next_sale, open_period};
 ghost use Rattle.cap_terminal.specs.Says.{Says};
 ghost use Rattle.cap_terminal.specs.Causes.{IsBeginCause, MayBegin, IsAskCause, IsCancelCause, MayCancel, IsCloseCause, MayClose, IsMemoryOrDisk, IsMemoryOrDiskAtClose};
 
@@ -84,6 +84,7 @@ impl<J: Journal<TermEntry>> Terminal<J> {
         requires next { n ≡ next_sale (J.entries self.old) }
         requires within { n ≤ max_of (J.entries self.old) }
         ensures ok { OnOk result (J.entries self.new ≡ J.entries self.old ++ Begin n amount account ∷ []) }
+        ensures live { OnOk result (IsLive (J.entries self.new) n amount account) }
         ensures kind { IfErr result IsMemoryOrDisk }
         ensures err { OnErr result (J.entries self.new ≡ J.entries self.old) }
         ensures disk { IsErrOf result BeginFault.Disk → Rose (J.faults self.old) (J.faults self.new) }
@@ -116,6 +117,7 @@ impl<J: Journal<TermEntry>> Terminal<J> {
     pub fn begin(&mut self, amount: Amount, account: Account) -> Result<Begun, BeginFault>
         ensures begun { IfOk result (λ begun. begun ≡ record { n = next_sale (J.entries self.old); amount = amount; account = account }) }
         ensures ok { OnOk result (J.entries self.new ≡ J.entries self.old ++ Begin (next_sale (J.entries self.old)) amount account ∷ []) }
+        ensures live { IfOk result (λ begun. IsLive (J.entries self.new) begun.n begun.amount begun.account) }
         ensures answers { OnOk result (MayBegin (J.has_failed self.old) (J.entries self.old)) }
         ensures refused { IfErr result (IsBeginCause (J.has_failed self.old) (J.entries self.old)) }
         ensures err { OnErr result (J.entries self.new ≡ J.entries self.old) }

@@ -1,6 +1,7 @@
 ghost use Rattle.std.specs.Prelude.{◌≡◌};
 ghost use Rattle.cap_terminal.specs.declared.faults.BeginFault.TheVariants.{Memory as NoMemory};
 ghost use Rattle.cap_terminal.specs.declared.faults.CloseFault.TheVariants.{Memory as NoPeriodMemory};
+ghost use Rattle.cap_terminal.specs.declared.faults.TermOpenCause.TheVariants.{Memory as NoOpenMemory};
 
 use cap_base::Memory;
 
@@ -79,4 +80,30 @@ pub enum AskFault {
     NotCompleted(u64),
     /// This sale is cancelled already.
     AlreadyCancelled(u64),
+}
+
+/// Why a terminal was not opened.
+#[derive(Clone, Copy, Debug, PartialEq, Eq)]
+pub enum TermOpenCause {
+    /// This entry, counted from 0, is the first that is not allowed after those before it; of an empty journal it is entry 0.
+    NotAllowed(u64),
+    /// The disk failed.
+    Disk,
+    /// Memory ran out.
+    Memory,
+}
+
+impl From<Memory> for TermOpenCause {
+    ghost from_gives = { λ _ e. e ≡ NoOpenMemory };
+
+    fn from(_: Memory) -> Self {
+        TermOpenCause::Memory
+    }
+}
+
+/// A journal over which no terminal was opened, and why.
+#[derive(Drop)]
+pub struct TermOpenError<J> {
+    pub back: J,
+    pub cause: TermOpenCause,
 }

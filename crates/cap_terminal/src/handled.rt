@@ -1,14 +1,7 @@
-use cap_base::{Code6, Reason, Response, Totals};
+use cap_base::{Reason, Response, Totals};
 use cap_leaf::Fault;
 use cap_mgmt_msgs::Actions;
-
-/// The host's decision on sale n.
-#[derive(Clone, Copy, Debug, PartialEq, Eq)]
-pub struct AuthResponse {
-    pub n: u64,
-    pub response: Response,
-    pub code: Code6,
-}
+use cap_sale::AuthResponse;
 
 /// What a message of the host was to a terminal.
 #[derive(Debug, Drop)]

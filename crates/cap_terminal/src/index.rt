@@ -1,21 +1,25 @@
-ghost use Rattle.std.specs.Prelude.{◌≡◌, ◌≤◌, ◌<◌, ◌+◌, ◌-◌, ◌*◌, ◌++◌, ◌∷◌, [], ℕ, length, vec_len, vec_capacity, OnOk, OnErr, Some, None, slice_get, sum_by};
+ghost use Rattle.std.specs.Prelude.{◌≡◌, ◌≤◌, ◌<◌, ◌+◌, ◌-◌, ◌*◌, ◌++◌, ◌∷◌, [], ℕ, length, vec_len, vec_capacity, OnOk, OnErr, IfOk, MatchOption, Some, None, true, take, drop, slice_get, sum_by};
 ghost use Rattle.cap_base.specs.declared.item.Item.TheVariants.{Sale, Void, Cancel, Close};
-ghost use Rattle.cap_terminal.specs.Index.{row_need, done_count, back_count, given_up_count, row_of, staged, need_of, done_of, back_of, given_up_of};
+ghost use Rattle.cap_terminal.specs.Index.{is_ended, row_need, done_count, back_count, given_up_count, row_of, staged, need_of, done_of, back_of, given_up_of};
+ghost use Rattle.cap_terminal.specs.Pending.{Notes, notes_prop, notes, WaitsNoneFrom, IsLeastWaiting};
 ghost use Rattle.cap_terminal.specs.Says.{sale_at};
-ghost use Rattle.cap_terminal.specs.Running.{counted, nothing};
+ghost use Rattle.cap_terminal.specs.Running.{counted, nothing, closed_at};
 ghost use Rattle.cap_terminal.specs.declared.sale_row.Stage.TheVariants.{Pending, Declined, Completed, Voided, Cancelled};
 
 use crate::part::PartNumbers;
+use crate::pending::Pending as PendingNumbers;
 use crate::sale_row::{SaleRow, Stage};
 use crate::sets::Sets;
 use cap_base::{Account, Amount, Code6, Item, Memory, Totals};
 use std::alloc::Global;
 
 /// What a terminal keeps of its entries in memory, so that no call reads its journal again.
-#[derive(Debug, Drop)]
+#[derive(Drop)]
 pub(crate) struct Index {
     /// The sales, by number from 1.
     pub sales: Vec<SaleRow>,
+    /// The numbers of the pending sales.
+    pub pending: PendingNumbers,
     pub items: Vec<Item>,
     /// How many items the host has acknowledged.
     pub acked: u64,
@@ -30,6 +34,7 @@ pub(crate) struct Index {
     /// How many items the sales may still make.
     pub owed: u64,
     pub ghost owed_is: { owed ≡ sum_by row_need sales.items },
+    pub ghost pending_are: { Notes pending sales.items } by { notes_prop _ _ },
     pub ghost room: { vec_len items + owed ≤ vec_capacity items },
     pub ghost few: { vec_len sales ≤ 250000 },
     pub ghost few_completed: { completed ≤ sum_by done_count sales.items },
@@ -63,17 +68,38 @@ fn need(stage: Stage) -> u64
     }
 }
 
+// A sale comes to its end, or is cancelled.
+fn move_on(sales: &mut Vec<SaleRow>, pending: &mut PendingNumbers, n: u64, stage: Stage)
+    requires notes { Notes pending.old sales.old.items }
+    requires low { 1 ≤ n }
+    requires high { n ≤ length sales.old.items }
+    requires ends { is_ended stage ≡ true }
+    ensures sales { sales.new.items ≡ staged sales.old.items n stage }
+    ensures notes { Notes pending.new sales.new.items }
+{
+    let place = (n - 1) as usize;
+    let row = sales[place];
+    sales[place] = SaleRow {
+        amount: row.amount,
+        account: row.account,
+        stage,
+    };
+    pending.forget(n);
+}
+
 impl Index {
     ghost use Rattle.cap_terminal.specs.View.{index_view};
     ghost use Rattle.cap_terminal.specs.Index.{no_index, changed};
     ghost use Rattle.cap_terminal.specs.declared.change.Change.TheVariants as change;
 
     /// The index of no entries.
+    #[tactic(auto, using(crate::proofs::Waiting::notes_none))]
     pub fn new(alloc: Global) -> Self
         ensures { index_view result ≡ no_index }
     {
         Index {
             sales: Vec::new(alloc),
+            pending: PendingNumbers::new(alloc),
             items: Vec::new(alloc),
             acked: 0,
             running: no_totals(),
@@ -97,16 +123,77 @@ impl Index {
         }
     }
 
+    /// The oldest item that is not acknowledged.
+    pub fn head(&self) -> Option<Item>
+        ensures { result ≡ slice_get self.now.items.items self.now.acked }
+    {
+        self.items.get(self.acked as usize).copied()
+    }
+
+    /// The totals of period p, where it is closed.
+    pub fn closed_totals(&self, p: u64) -> Option<Totals>
+        ensures { result ≡ closed_at self.now.closed.items p }
+    {
+        if 1 <= p && p <= self.closed.len() as u64 {
+            Some(self.closed[(p - 1) as usize])
+        } else {
+            None
+        }
+    }
+
+    /// The number of the least pending sale not below n; None exactly where there is none.
+    #[tactic(auto, using(crate::proofs::Waiting::waiting_found, crate::proofs::Waiting::waiting_past, crate::proofs::Waiting::waiting_none))]
+    pub fn pending_from(&self, n: u64) -> Option<u64>
+        ensures { MatchOption result (WaitsNoneFrom self.now.sales.items n) (λ k. IsLeastWaiting self.now.sales.items n k) }
+    {
+        match self.pending.first_from(n) {
+            Some(k) => {
+                if k <= self.sales.len() as u64 {
+                    Some(k)
+                } else {
+                    None
+                }
+            }
+            None => None,
+        }
+    }
+
+    /// The first items that are not acknowledged, at most as many as the limit.
+    pub fn queue_front(&self, alloc: Global, limit: usize) -> Result<Vec<Item>, Memory>
+        ensures { IfOk result (λ front. front.items ≡ take limit (drop self.now.acked self.now.items.items)) }
+    {
+        let mut front = Vec::new(alloc);
+        if let Some(queue) = self.items.get(self.acked as usize..) {
+            let count = limit.min(queue.len());
+            front.extend_from_slice(&queue[..count])?;
+        }
+        Ok(front)
+    }
+
     /// Makes room for a further sale and its two items.
     pub fn make_sale_room(&mut self) -> Result<(), Memory>
         ensures view { index_view self.new ≡ index_view self.old }
         ensures owed { self.new.owed ≡ self.old.owed }
         ensures room { OnOk result (vec_len self.new.items + self.new.owed + 2 ≤ vec_capacity self.new.items) }
         ensures sale_room { OnOk result (vec_len self.new.sales < vec_capacity self.new.sales) }
+        ensures noted { OnOk result (notes self.new.pending (length self.new.sales.items + 1) ≡ true) }
     {
         self.items.reserve((self.owed + 2) as usize)?;
         self.sales.reserve(1)?;
-        Ok(())
+        self.note_next()
+    }
+
+    // Notes the number of the sale that begins next.
+    #[tactic(auto, using(crate::proofs::Waiting::noted_next))]
+    fn note_next(&mut self) -> Result<(), Memory>
+        ensures view { index_view self.new ≡ index_view self.old }
+        ensures owed { self.new.owed ≡ self.old.owed }
+        ensures items { vec_capacity self.new.items ≡ vec_capacity self.old.items }
+        ensures sales { vec_capacity self.new.sales ≡ vec_capacity self.old.sales }
+        ensures noted { OnOk result (notes self.new.pending (length self.new.sales.items + 1) ≡ true) }
+    {
+        let next = self.sales.len() as u64 + 1;
+        self.pending.note(next)
     }
 
     /// Makes room for the item and the totals of a period.
@@ -122,10 +209,12 @@ impl Index {
     }
 
     /// A further sale.
+    #[tactic(auto, using(crate::proofs::Waiting::begun))]
     pub fn begin(&mut self, amount: Amount, account: Account)
         requires few { vec_len self.old.sales < 250000 }
         requires room { vec_len self.old.items + self.old.owed + 2 ≤ vec_capacity self.old.items }
         requires sale_room { vec_len self.old.sales < vec_capacity self.old.sales }
+        requires noted { notes self.old.pending (length self.old.sales.items + 1) ≡ true }
         ensures view { index_view self.new ≡ changed (index_view self.old) (change.Begin amount account) }
         ensures owed { self.new.owed ≡ self.old.owed + 2 }
     {
@@ -141,6 +230,7 @@ impl Index {
     fn set_stage(&mut self, n: u64, stage: Stage)
         requires low { 1 ≤ n }
         requires high { n ≤ length self.old.sales.items }
+        requires ends { is_ended stage ≡ true }
         requires need { need_of stage ≤ need_of (row_of self.old.sales.items n).stage }
         requires done { done_of (row_of self.old.sales.items n).stage ≤ done_of stage }
         requires back { back_of (row_of self.old.sales.items n).stage ≤ back_of stage }
@@ -160,14 +250,9 @@ impl Index {
         ensures back_sum { sum_by back_count self.new.sales.items + back_of (row_of self.old.sales.items n).stage ≡ sum_by back_count self.old.sales.items + back_of stage }
         ensures given_up_sum { sum_by given_up_count self.new.sales.items + given_up_of (row_of self.old.sales.items n).stage ≡ sum_by given_up_count self.old.sales.items + given_up_of stage }
     {
-        let place = (n - 1) as usize;
-        let row = self.sales[place];
+        let row = self.sales[(n - 1) as usize];
         self.owed = self.owed - need(row.stage) + need(stage);
-        self.sales[place] = SaleRow {
-            amount: row.amount,
-            account: row.account,
-            stage,
-        };
+        move_on(&mut self.sales, &mut self.pending, n, stage);
     }
 
     /// A pending sale is declined.

@@ -1,7 +1,7 @@
 ghost use Rattle.std.specs.Prelude.{◌≡◌, None};
 ghost use Rattle.cap_entries.specs.InForce.{version_in_force};
 ghost use Rattle.cap_entries.specs.Allowed.{part_allowed};
-ghost use Rattle.cap_terminal.specs.Numbers.{numbers_of, numbers_continue, numbers_version, numbers_allow};
+ghost use Rattle.cap_terminal.specs.Numbers.{numbers_of, numbers_continue, numbers_version, numbers_part, numbers_allow};
 
 use cap_base::ConfigPart;
 use cap_entries::TermEntry;
@@ -59,7 +59,7 @@ fn continues(last: Option<PartNumbers>, part: &ConfigPart) -> bool
     }
 }
 
-fn version(last: Option<PartNumbers>) -> u64
+pub(crate) fn version(last: Option<PartNumbers>) -> u64
     ensures { result ≡ numbers_version last }
 {
     match last {
@@ -68,8 +68,18 @@ fn version(last: Option<PartNumbers>) -> u64
     }
 }
 
+// The number of the last part.
+pub(crate) fn part_number(last: Option<PartNumbers>) -> u64
+    ensures { result ≡ numbers_part last }
+{
+    match last {
+        Some(last) => last.part,
+        None => 0,
+    }
+}
+
 // Whether a part may be added where this version is in force, and these are the numbers of the last part.
-fn allows(in_force: u64, last: Option<PartNumbers>, part: &ConfigPart) -> bool
+pub(crate) fn allows(in_force: u64, last: Option<PartNumbers>, part: &ConfigPart) -> bool
     ensures { result ≡ numbers_allow in_force last part.now }
 {
     (1 <= part.part && part.part <= part.parts && part.parts <= 16)

@@ -6,18 +6,22 @@ ghost use Rattle.cap_entries.specs.Acked.{acked};
 ghost use Rattle.cap_msgs.specs.declared.message.Body.TheVariants.{Sale as Of_sale, Batch as Of_batch, Management as Of_management};
 ghost use Rattle.cap_msgs.specs.Received.{Read, Unread};
 ghost use Rattle.cap_msgs.specs.Reply.{is_approval, is_totals_response, is_items_response, reply_of};
-ghost use Rattle.cap_terminal.specs.Takes.{refuses, tells, queue_head, is_sale_or_void, is_cancel_item, is_close_item, take_part, take_reply, is_for_us, takes};
-ghost use Rattle.cap_terminal.specs.Plain.{acknowledges_so};
+ghost use Rattle.cap_terminal.specs.Takes.{refuses, tells, take_part, take_reply, is_for_us, takes};
+ghost use Rattle.cap_entries.specs.Allowed.{part_allowed};
+ghost use Rattle.cap_terminal.specs.declared.handled.Handled.TheVariants.{Plan as Plan_handled};
+ghost use Rattle.cap_terminal.specs.Plain.{queue_view, acknowledges_so, take_told};
 
-use crate::handled::{AuthResponse, Handled, TermFault};
+use crate::handled::{Handled, TermFault};
 use crate::part::may_add;
-use cap_base::{ConfigPart, Item, Memory, Response};
+use crate::queue::{QueueView, cancels_sale, closes, ends_sale};
+use cap_base::{ConfigPart, Memory, Response};
 use cap_batch_msgs::BatchBody;
 use cap_entries::TermEntry;
 use cap_leaf::Fault;
-use cap_mgmt_msgs::MgmtBody;
+use cap_mgmt_msgs::{Actions, MgmtBody};
 use cap_msgs::{Body, Message};
 use cap_plain::items_of;
+use cap_sale::AuthResponse;
 use cap_sale_msgs::SaleBody;
 use std::alloc::Global;
 use std::marker::Model;
@@ -47,7 +51,7 @@ fn told(handled: Handled) -> Taking
     }
 }
 
-fn refused(fault: TermFault) -> Taking
+pub(crate) fn refused(fault: TermFault) -> Taking
     ensures { result ≡ refuses fault }
 {
     Taking {
@@ -82,39 +86,18 @@ fn is_ours(entries: &[TermEntry], message: &Message) -> bool
     }
 }
 
-// The oldest item that is not acknowledged, under its number.
-fn is_head(entries: &[TermEntry], m: u64) -> bool
-    ensures { result ≡ (m == acked entries.now + 1) }
+// What is to be known of the queue.
+fn view_of(alloc: Global, entries: &[TermEntry]) -> Result<QueueView, Memory>
+    requires { Legal entries.now }
+    ensures { IfOk result (λ view. view ≡ queue_view entries.now) }
 {
-    m.checked_sub(1) == Some(last_acked(entries))
-}
-
-fn head(entries: &[TermEntry], made: &[Item]) -> Option<Item>
-    requires { made.now ≡ items entries.now }
-    ensures { result ≡ queue_head entries.now }
-{
-    made.get(last_acked(entries) as usize).copied()
-}
-
-fn ends_sale(item: Option<Item>) -> bool
-    ensures { result ≡ is_sale_or_void item }
-{
-    matches!(item, Some(Item::Sale { .. } | Item::Void { .. }))
-}
-
-fn cancels_sale(item: Option<Item>) -> bool
-    ensures { result ≡ is_cancel_item item }
-{
-    matches!(item, Some(Item::Cancel { .. }))
-}
-
-fn closes(item: Option<Item>, period: u64) -> bool
-    ensures { result ≡ is_close_item period item }
-{
-    match item {
-        Some(Item::Close { p, .. }) => p == period,
-        _ => false,
-    }
+    let made = items_of(alloc, entries)?;
+    let acked = last_acked(entries);
+    Ok(QueueView {
+        acked,
+        len: made.len() as u64,
+        head: made.get(acked as usize).copied(),
+    })
 }
 
 fn approves(response: Response) -> bool
@@ -136,19 +119,11 @@ fn takes_items(response: Response) -> bool
 }
 
 // An acknowledgement of the items up to m.
-fn acknowledged(
-    entries: &[TermEntry],
-    made: &[Item],
-    m: u64,
-    approves: bool,
-    awaited: bool,
-    answer: Handled,
-) -> Taking
-    requires { made.now ≡ items entries.now }
-    ensures { result ≡ acknowledges_so entries.now m approves awaited answer }
+fn acknowledged(view: &QueueView, m: u64, approves: bool, awaited: bool, answer: Handled) -> Taking
+    ensures { result ≡ acknowledges_so view.now m approves awaited answer }
 {
-    let acked = last_acked(entries);
-    let len = made.len() as u64;
+    let acked = view.acked;
+    let len = view.len;
     if !approves {
         return refused(TermFault::NotAwaited);
     }
@@ -168,9 +143,8 @@ fn acknowledged(
 }
 
 // A message on one sale.
-fn take_sale(entries: &[TermEntry], made: &[Item], number: u64, body: &SaleBody) -> Taking
-    requires { made.now ≡ items entries.now }
-    ensures { result ≡ take_reply entries.now number (reply_of (Of_sale body.now)) }
+pub(crate) fn take_sale(view: &QueueView, number: u64, body: &SaleBody) -> Taking
+    ensures { result ≡ take_told view.now number (reply_of (Of_sale body.now)) }
 {
     match body {
         SaleBody::AuthAnswer { response, code } => told(Handled::Authorisation(AuthResponse {
@@ -183,10 +157,9 @@ fn take_sale(entries: &[TermEntry], made: &[Item], number: u64, body: &SaleBody)
             response: *response,
         }),
         SaleBody::CompletionAnswer { response } => {
-            let awaited = is_head(entries, number) && ends_sale(head(entries, made));
+            let awaited = view.is_next(number) && ends_sale(&view.head);
             acknowledged(
-                entries,
-                made,
+                view,
                 number,
                 approves(*response),
                 awaited,
@@ -194,10 +167,9 @@ fn take_sale(entries: &[TermEntry], made: &[Item], number: u64, body: &SaleBody)
             )
         }
         SaleBody::CancelAdviceAnswer { response } => {
-            let awaited = is_head(entries, number) && cancels_sale(head(entries, made));
+            let awaited = view.is_next(number) && cancels_sale(&view.head);
             acknowledged(
-                entries,
-                made,
+                view,
                 number,
                 approves(*response),
                 awaited,
@@ -209,9 +181,8 @@ fn take_sale(entries: &[TermEntry], made: &[Item], number: u64, body: &SaleBody)
 }
 
 // A message on periods or batches, a diagnostic one, or a rejection.
-fn take_batch(entries: &[TermEntry], made: &[Item], number: u64, body: &BatchBody) -> Taking
-    requires { made.now ≡ items entries.now }
-    ensures { result ≡ take_reply entries.now number (reply_of (Of_batch body.now)) }
+pub(crate) fn take_batch(view: &QueueView, number: u64, body: &BatchBody) -> Taking
+    ensures { result ≡ take_told view.now number (reply_of (Of_batch body.now)) }
 {
     match body {
         BatchBody::Rejection(refusal) => refused(TermFault::Rejected(refusal.reason)),
@@ -221,24 +192,16 @@ fn take_batch(entries: &[TermEntry], made: &[Item], number: u64, body: &BatchBod
             period,
             totals,
         } => {
-            let awaited = is_head(entries, number) && closes(head(entries, made), *period);
+            let awaited = view.is_next(number) && closes(&view.head, *period);
             let answer = Handled::Reconciled {
                 m: number,
                 totals: *totals,
                 agree: approves(*response),
             };
-            acknowledged(
-                entries,
-                made,
-                number,
-                tells_totals(*response),
-                awaited,
-                answer,
-            )
+            acknowledged(view, number, tells_totals(*response), awaited, answer)
         }
         BatchBody::BatchAnswer { response, last } => acknowledged(
-            entries,
-            made,
+            view,
             *last,
             takes_items(*response),
             true,
@@ -248,10 +211,18 @@ fn take_batch(entries: &[TermEntry], made: &[Item], number: u64, body: &BatchBod
     }
 }
 
-fn take_config(entries: &[TermEntry], part: &ConfigPart) -> Result<Taking, Memory>
-    ensures { IfOk result (λ t. t ≡ take_part entries.now part.now) }
+// A plan of management.
+pub(crate) fn take_plan(actions: &Actions) -> Result<Taking, Memory>
+    ensures { IfOk result (λ t. t ≡ tells (Plan_handled actions.now)) }
 {
-    if may_add(entries, part) {
+    Ok(told(Handled::Plan(actions.clone()?)))
+}
+
+// A part of a parameter set, which may be added or not.
+pub(crate) fn take_config(may_add: bool, part: &ConfigPart) -> Result<Taking, Memory>
+    ensures { (entries : List TermEntry) → may_add ≡ part_allowed entries part.now → IfOk result (λ t. t ≡ take_part entries part.now) }
+{
+    if may_add {
         let answer = Handled::Part {
             version: part.version,
             part: part.part,
@@ -272,8 +243,8 @@ fn take_management(entries: &[TermEntry], number: u64, body: &MgmtBody) -> Resul
 {
     match body {
         MgmtBody::ManagementRejection(refusal) => Ok(refused(TermFault::Rejected(refusal.reason))),
-        MgmtBody::Plan(actions) => Ok(told(Handled::Plan(actions.clone()?))),
-        MgmtBody::Part(part) => take_config(entries, part),
+        MgmtBody::Plan(actions) => take_plan(actions),
+        MgmtBody::Part(part) => take_config(may_add(entries, part), part),
         MgmtBody::Status { .. } => Ok(refused(TermFault::NotAwaited)),
     }
 }
@@ -291,10 +262,13 @@ pub fn take_message(
         return Ok(refused(TermFault::NotForUs));
     }
     let number = message.header.exchange;
-    let made = items_of(alloc, entries)?;
+    let view = match view_of(alloc, entries) {
+        Ok(view) => view,
+        Err(_) => return Err(Memory),
+    };
     match &message.body {
-        Body::Sale(body) => Ok(take_sale(entries, &made, number, body)),
-        Body::Batch(body) => Ok(take_batch(entries, &made, number, body)),
+        Body::Sale(body) => Ok(take_sale(&view, number, body)),
+        Body::Batch(body) => Ok(take_batch(&view, number, body)),
         Body::Management(body) => take_management(entries, number, body),
     }
 }

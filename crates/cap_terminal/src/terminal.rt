@@ -13,11 +13,13 @@ use crate::faults::EntryFault;
 use crate::index::Index;
 use cap_entries::{TermEntry, TermSetup};
 use cap_journal::Journal;
+use std::alloc::Global;
 use std::marker::Model;
 
 /// A terminal over a journal. Contracts see it as its journal.
 #[derive(Drop)]
 pub struct Terminal<J: Journal<TermEntry>> {
+    pub(crate) alloc: Global,
     pub(crate) journal: J,
     pub(crate) setup: TermSetup,
     pub(crate) index: Index,

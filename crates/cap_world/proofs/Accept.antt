@@ -17,7 +17,7 @@ use Rattle.cap_entries.specs.declared.host.HostEntry.{HostEntry}
 use Rattle.cap_entries.specs.Log.{log}
 use Rattle.cap_entries.specs.Fronts.{IsPrefixOf}
 use Rattle.cap_entries.specs.FitsLaws.{all_fit_front, all_fit_back}
-use Rattle.cap_host.specs.Answer.{Answered, approved_if, answer_of_item, item_at, same_item, is_unexpected, answer_advice, agree_so_far, fitting, taken_items, standing, answer_batch, answer_report}
+use Rattle.cap_host_answers.specs.Answer.{Answered, approved_if, answer_of_item, item_at, same_item, is_unexpected, answer_advice, agree_so_far, fitting, taken_items, standing, answer_batch, answer_report}
 use Rattle.cap_world.proofs.Named.{names_same}
 use Rattle.cap_world.proofs.Sound.{StandsAt, ReportOk}
 use Rattle.cap_world.proofs.HostSound.{after_front, same_fronts}

@@ -29,8 +29,8 @@ use Rattle.cap_entries.specs.Acked.{acked}
 use Rattle.cap_entries.specs.Allowed.{part_allowed}
 use Rattle.cap_entries.specs.Log.{published, setup_of}
 use Rattle.cap_manager.specs.Manager.{answer_status}
-use Rattle.cap_host.specs.Answer.{Answered, answers, is_approved, answer_request, answer_data, answer_report}
-use Rattle.cap_host.specs.Received.{answer_received, number_of, Replies}
+use Rattle.cap_host_answers.specs.Answer.{Answered, answers, is_approved, answer_request, answer_data, answer_report}
+use Rattle.cap_host_answers.specs.Received.{answer_received, number_of, Replies}
 use Rattle.cap_terminal.specs.Takes.{Taken, is_awaited, take_acknowledgement, take_reply, is_for_us, takes}
 use Rattle.cap_terminal.specs.Does.{Decision, Leave, Complete, Give_up, Decline, Decides}
 use Rattle.cap_terminal.specs.Sends.{Sending, Head, Batch_of, Ask, Ask_cancel, Diagnose, Report_status, Sends}

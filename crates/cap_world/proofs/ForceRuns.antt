@@ -28,8 +28,8 @@ use Rattle.cap_entries.specs.InForce.{version_in_force}
 use Rattle.cap_entries.specs.Log.{published, setup_of}
 use Rattle.cap_entries.specs.AllowedLaws.{all_allowed_front, all_allowed_back, along, allowed_is}
 use Rattle.cap_manager.specs.Manager.{newest_part, answer_status}
-use Rattle.cap_host.specs.Answer.{Answered, is_approved, answer_request, answer_data, answer_report}
-use Rattle.cap_host.specs.Received.{answer_received, Replies}
+use Rattle.cap_host_answers.specs.Answer.{Answered, is_approved, answer_request, answer_data, answer_report}
+use Rattle.cap_host_answers.specs.Received.{answer_received, Replies}
 use Rattle.cap_terminal.specs.declared.handled.Handled.{Handled}
 use Rattle.cap_terminal.specs.declared.handled.TermFault.{TermFault}
 use Rattle.cap_terminal.specs.Takes.{Taken, is_awaited, take_acknowledgement, take_reply, is_for_us, takes}

@@ -19,7 +19,7 @@ use Rattle.cap_entries.specs.declared.host.HostEntry.TheVariants.{Took}
 use Rattle.cap_entries.specs.Log.{log, published, setup_of}
 use Rattle.cap_entries.specs.Fronts.{IsPrefixOf, prefix_refl}
 use Rattle.cap_manager.specs.Manager.{answer_status}
-use Rattle.cap_host.specs.Answer.{Answered, is_approved, answer_request, answer_of_item, item_at, same_item, is_unexpected, answer_advice, agree_so_far, fitting, fresh_items, taken_items, answer_batch, answer_data, answer_report, answer_of}
+use Rattle.cap_host_answers.specs.Answer.{Answered, is_approved, answer_request, answer_of_item, item_at, same_item, is_unexpected, answer_advice, agree_so_far, fitting, fresh_items, taken_items, answer_batch, answer_data, answer_report, answer_of}
 use Rattle.cap_world.proofs.Sound.{StandsAt, ReportOk, SentOk}
 
 -- two splits of a list at the same place

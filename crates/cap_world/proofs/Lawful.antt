@@ -27,9 +27,9 @@ use Rattle.cap_entries.specs.ItemsLaws.{items_grow}
 use Rattle.cap_entries.specs.LogLaws.{log_grow, log_kept}
 use Rattle.cap_entries.specs.AllowedLaws.{all_allowed-append, all_allowed_front}
 use Rattle.cap_manager.specs.Manager.{answer_status}
-use Rattle.cap_host.specs.Answer.{Answered, is_approved, answer_request, answer_data, answer_report, answer_of}
-use Rattle.cap_host.specs.Received.{answer_received, Replies}
-use Rattle.cap_terminal.specs.declared.handled.AuthResponse.{AuthResponse}
+use Rattle.cap_host_answers.specs.Answer.{Answered, is_approved, answer_request, answer_data, answer_report, answer_of}
+use Rattle.cap_host_answers.specs.Received.{answer_received, Replies}
+use Rattle.cap_sale.specs.declared.response.AuthResponse.{AuthResponse}
 use Rattle.cap_terminal.specs.declared.handled.Handled.{Handled}
 use Rattle.cap_terminal.specs.declared.handled.Handled.TheVariants.{Authorisation}
 use Rattle.cap_terminal.specs.declared.handled.TermFault.{TermFault}

@@ -17,7 +17,7 @@ use Rattle.cap_entries.specs.HostAllowed.{host_allowed_after, host_allowed, all_
 use Rattle.cap_entries.specs.LogLaws.{log-append}
 use Rattle.cap_entries.specs.AllowedLaws.{all_allowed_front}
 use Rattle.cap_entries.specs.HostAllowedLaws.{all_host_allowed-append, all_host_allowed_front}
-use Rattle.cap_host.specs.Answer.{Answered}
+use Rattle.cap_host_answers.specs.Answer.{Answered}
 use Rattle.cap_world.specs.World.{TerminalState, World, Event, Acts, Interrupted, Restart, Interrupted_restart, HostAction, Answers, Answers_foreign, Publishes, HostDoes, delivered, HostStep, Happening, At_terminal, At_host, Step, started, first, Run}
 use Rattle.cap_world.proofs.HostSound.{answer_sound, log-took}
 use Rattle.cap_world.proofs.Parties.{foreign_is_rejected}

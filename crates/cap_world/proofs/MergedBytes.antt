@@ -8,7 +8,7 @@ use Rattle.cap_entries.specs.Settings.{TerminalSettings, HostSettings}
 use Rattle.cap_entries.specs.declared.terminal.TermEntry.{TermEntry}
 use Rattle.cap_entries.specs.declared.host.HostEntry.{HostEntry}
 use Rattle.cap_entries.specs.Log.{setup_of}
-use Rattle.cap_host.specs.Received.{place_or, place_named}
+use Rattle.cap_host_answers.specs.Received.{place_or, place_named}
 use Rattle.cap_terminal.specs.declared.handled.TermFault.{TermFault}
 use Rattle.cap_terminal.specs.Takes.{Taken, refuses, is_for_us, takes, IsNotOurs}
 use Rattle.cap_terminal.specs.Does.{Decision, Leave, Complete, Give_up, Decline, Decides}

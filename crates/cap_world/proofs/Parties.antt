@@ -12,8 +12,8 @@ use Rattle.cap_msgs.specs.Report.{report_of, is_from_host, is_unanswered, is_man
 use Rattle.cap_msgs.specs.Reply.{Rejects, reply_of}
 use Rattle.cap_entries.specs.declared.host.HostEntry.{HostEntry}
 use Rattle.cap_entries.specs.Log.{setup_of}
-use Rattle.cap_host.specs.Answer.{Answered, refusal, answer_of}
-use Rattle.cap_host.specs.Received.{place_of, rejection, rejects, answer_from, answer_received, IsForeign}
+use Rattle.cap_host_answers.specs.Answer.{Answered, refusal, answer_of}
+use Rattle.cap_host_answers.specs.Received.{place_of, rejection, rejects, answer_from, answer_received, IsForeign}
 use Rattle.cap_world.proofs.Named.{NamedMessage}
 
 -- where the host is meant and the sender has this place, the answer is that of the place

@@ -15,13 +15,13 @@ use Rattle.cap_entries.specs.declared.terminal.TermEntry.{TermEntry}
 use Rattle.cap_entries.specs.declared.host.HostEntry.{HostEntry}
 use Rattle.cap_entries.specs.Entry.{is_any_begin, is_pending, amount_of, max_of}
 use Rattle.cap_entries.specs.Floor.{floor}
-use Rattle.cap_terminal.specs.declared.handled.AuthResponse.{AuthResponse}
+use Rattle.cap_sale.specs.declared.response.AuthResponse.{AuthResponse}
 use Rattle.cap_terminal.specs.declared.handled.Handled.{Handled}
 use Rattle.cap_terminal.specs.declared.handled.Handled.TheVariants as H
 use Rattle.cap_terminal.specs.declared.handled.TermFault.{TermFault}
 use Rattle.cap_terminal.specs.Takes.{takes, queue_head}
 use Rattle.cap_terminal.specs.Does.{Decides}
-use Rattle.cap_host.specs.Received.{answer_received, Replies}
+use Rattle.cap_host_answers.specs.Received.{answer_received, Replies}
 use Rattle.cap_world.specs.declared.outcome.Outcome.{Outcome}
 use Rattle.cap_world.specs.Orders.{Order, Sells, Pushes, Hears, HostOrder, Answers_to, Asked, Of_terminal, Of_host, asked}
 use Rattle.cap_world.specs.declared.schedule.Line.{Line}

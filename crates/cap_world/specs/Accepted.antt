@@ -14,7 +14,7 @@ use Rattle.cap_msgs.specs.Report.{Report, Advice, Many, report_of}
 use Rattle.cap_entries.specs.Settings.{TerminalSettings, HostSettings}
 use Rattle.cap_entries.specs.declared.terminal.TermEntry.{TermEntry}
 use Rattle.cap_entries.specs.declared.host.HostEntry.{HostEntry}
-use Rattle.cap_host.specs.Received.{answer_received}
+use Rattle.cap_host_answers.specs.Received.{answer_received}
 use Rattle.cap_terminal.specs.declared.handled.Handled.{Handled}
 use Rattle.cap_terminal.specs.declared.handled.Handled.TheVariants.{Reconciled}
 use Rattle.cap_terminal.specs.declared.handled.TermFault.{TermFault}

@@ -9,7 +9,7 @@ use Rattle.cap_entries.specs.declared.terminal.TermEntry.{TermEntry}
 use Rattle.cap_entries.specs.declared.terminal.TermEntry.TheVariants.{Completed}
 use Rattle.cap_entries.specs.Entry.{amount_of, account_of}
 use Rattle.cap_entries.specs.Floor.{floor}
-use Rattle.cap_host.specs.Answer.{is_approved}
+use Rattle.cap_host_answers.specs.Answer.{is_approved}
 use Rattle.cap_terminal.specs.Does.{offline_code}
 use Rattle.cap_world.specs.World.{World, TerminalState, Happening, SetUpsMatch, first, Run, May}
 

@@ -8,7 +8,7 @@ use Rattle.cap_entries.specs.declared.terminal.TermEntry.{TermEntry}
 use Rattle.cap_entries.specs.declared.host.HostEntry.{HostEntry}
 use Rattle.cap_entries.specs.declared.host.HostEntry.TheVariants.{Published}
 use Rattle.cap_entries.specs.Log.{published}
-use Rattle.cap_host.specs.Received.{answer_received, Replies, place_named, IsForeign}
+use Rattle.cap_host_answers.specs.Received.{answer_received, Replies, place_named, IsForeign}
 use Rattle.cap_terminal.specs.Takes.{takes, IsNotOurs}
 use Rattle.cap_terminal.specs.Does.{Decision, Decides}
 use Rattle.cap_world.specs.World.{TerminalState, World, TerminalAction, Takes_answer, Hears_foreign, TerminalDoes, Event, Acts, Interrupted, Restart, Interrupted_restart, TerminalStep, HostStep, delivered, Happening, SetUpsMatch, first, Run}

@@ -14,7 +14,7 @@ use Rattle.cap_entries.specs.declared.host.HostEntry.{HostEntry}
 use Rattle.cap_entries.specs.Entry.{is_any_begin, is_pending, amount_of, max_of}
 use Rattle.cap_entries.specs.Acked.{acked}
 use Rattle.cap_entries.specs.Floor.{floor}
-use Rattle.cap_terminal.specs.declared.handled.AuthResponse.{AuthResponse}
+use Rattle.cap_sale.specs.declared.response.AuthResponse.{AuthResponse}
 use Rattle.cap_terminal.specs.declared.handled.Handled.{Handled}
 use Rattle.cap_terminal.specs.declared.handled.Handled.TheVariants as H
 use Rattle.cap_terminal.specs.declared.handled.TermFault.{TermFault}
@@ -22,7 +22,7 @@ use Rattle.cap_terminal.specs.declared.handled.TermFault.TheVariants as F
 use Rattle.cap_terminal.specs.Takes.{takes, queue_head}
 use Rattle.cap_terminal.specs.Does.{offline_code, Decision, Leave, Complete, Decline}
 use Rattle.cap_terminal.specs.Sends.{message_of, Sending, Head}
-use Rattle.cap_host.specs.Received.{answer_received, reply_to}
+use Rattle.cap_host_answers.specs.Received.{answer_received, reply_to}
 use Rattle.cap_world.specs.declared.outcome.Outcome.{Outcome}
 use Rattle.cap_world.specs.declared.outcome.Outcome.TheVariants as O
 use Rattle.cap_world.specs.Orders.{Order, Sells, Pushes, Hears, HostOrder, Answers_to}

@@ -11,7 +11,7 @@ use Rattle.cap_entries.specs.declared.terminal.TermEntry.TheVariants.{Setup}
 use Rattle.cap_entries.specs.declared.host.HostEntry.{HostEntry}
 use Rattle.cap_entries.specs.declared.host.HostEntry.TheVariants.{Setup as Host_setup, Published}
 use Rattle.cap_entries.specs.Log.{published}
-use Rattle.cap_host.specs.Received.{answer_received, Replies, place_named, IsForeign}
+use Rattle.cap_host_answers.specs.Received.{answer_received, Replies, place_named, IsForeign}
 use Rattle.cap_terminal.specs.Takes.{takes, IsNotOurs}
 use Rattle.cap_terminal.specs.Does.{Begins_sale, Completes_offline, Gives_up_sale, Cancels_sale, Closes_period, Decision, Decides}
 use Rattle.cap_terminal.specs.Sends.{Sending, Sends}

@@ -19,7 +19,7 @@ use crate::schedule::{Action, Line};
 use crate::terminal::{hear, nth_of, push_head, sell};
 use cap_base::{Ident, Memory};
 use cap_entries::{HostEntry, HostSetup, TermEntry, TermSetup};
-use cap_host::answer_message;
+use cap_host_answers::answer_message;
 use cap_leaf::{DateTime, Header};
 use cap_msgs::{Body, Message};
 use sqlite_items::Items;

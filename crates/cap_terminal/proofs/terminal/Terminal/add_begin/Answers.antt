@@ -1,12 +1,14 @@
-use Rattle.std.proofs.Common.{◌≡◌, ◌≤◌, length, true, sym, ap, subst, arith, ◌∙◌}
+use Rattle.std.proofs.Common.{◌≡◌, ◌≤◌, length, List, [], ◌∷◌, ◌++◌, true, sym, ap, subst, arith, ◌∙◌}
 use Rattle.std.specs.Prelude.{count_by}
-use Rattle.cap_entries.specs.Allowed.{allowed}
+use Rattle.cap_entries.specs.declared.terminal.TermEntry.{TermEntry}
+use Rattle.cap_entries.specs.Allowed.{allowed, is_legal}
 use Rattle.cap_entries.specs.Entry.{is_any_begin, max_of}
 use Rattle.cap_entries.specs.declared.terminal.TermEntry.TheVariants.{Begin}
 use Rattle.cap_plain.specs.LegalLaws.{max_within}
 use Rattle.cap_terminal.specs.Index.{TerminalIndex}
-use Rattle.cap_terminal.specs.Live.{next_sale}
+use Rattle.cap_terminal.specs.Live.{IsLive, next_sale}
 use Rattle.cap_terminal.proofs.Growth.{all_allowed_of, begin_allowed}
+use Rattle.cap_terminal.proofs.Live_laws.{begun_live}
 use Rattle.cap_terminal.proofs.Room_laws.{sales_count}
 use Rattle.cap_terminal.proofs.terminal.Terminal.add_begin.Goals as goal
 
@@ -28,4 +30,14 @@ reserve_and_add-requires-clause-room g c =
       few = omega (arith, begun, same, most, next, within);
       room = c.in_ok-make_sale_room.ensures.room;
       sale_room = c.in_ok-make_sale_room.ensures.sale_room;
+      noted = c.in_ok-make_sale_room.ensures.noted;
     }
+
+pub returns-clause-live : goal.returns-clause-live
+returns-clause-live g c =
+    let s = c.self.invariant.0 in
+    let old = c.args.self.now in
+    let legal : is_legal (g.J.Journal.entries old) ≡ true = subst (λ (j : g.row.J.Denot). is_legal (g.J.Journal.entries j) ≡ true) c.self.view_is s.legal in
+    subst (λ (l : List TermEntry). IsLive l c.args.n c.args.amount c.args.account) (sym c.in-Ok.ensures.ok)
+    (subst (λ (l : List TermEntry). IsLive (l ++ Begin c.args.n c.args.amount c.args.account ∷ []) c.args.n c.args.amount c.args.account) (ap g.J.Journal.entries (sym c.self.view_is))
+    (begun_live (g.J.Journal.entries old) c.args.n c.args.amount c.args.account legal c.requires.next c.requires.within))

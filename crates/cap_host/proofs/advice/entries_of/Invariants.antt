@@ -1,6 +1,0 @@
-use Rattle.std.proofs.Common.{◌≡◌, ◌++◌, map, drop}
-use Rattle.cap_entries.specs.declared.host.HostEntry.TheVariants.{Took}
-use Rattle.cap_host.proofs.advice.entries_of.Given as goal
-
-abbrev pub invariant-loop-item : goal.invariant-loop-item
-invariant-loop-item l = l.made.items ++ map (Took l.place) (drop l.item-index l.items) ≡ map (Took l.place) l.items

@@ -1,0 +1,4 @@
+pub mod Answer
+pub mod Received
+pub mod Plain
+pub mod Standing

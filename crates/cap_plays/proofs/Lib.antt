@@ -1,0 +1,6 @@
+pub mod SetUps
+pub mod Chains
+pub mod Singles
+pub mod Closing
+pub mod Sessions
+pub mod Worked

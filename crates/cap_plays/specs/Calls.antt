@@ -1,0 +1,37 @@
+-- What the adding calls of a terminal say over a disk that counts its device calls, and what a line of one terminal says.
+use Rattle.std.specs.Prelude.{◌≡◌, ⊤, ℕ, ◌+◌, ◌≤◌, ◌<◌, Bool, true, false, List, ◌++◌, Some, Result, Ok, Err}
+use Rattle.cap_disk.specs.Disk.{Counts}
+use Rattle.cap_schedule.specs.declared.outcome.Outcome.{Outcome}
+use Rattle.cap_world.specs.World.{TerminalState}
+use Rattle.cap_plays.specs.declared.fault.LineFault.{LineFault}
+use Rattle.cap_plays.specs.declared.fault.LineFault.TheVariants.{Disk, Memory}
+use Rattle.cap_plays.specs.Turns.{Turn}
+use Rattle.cap_plays.specs.Plays.{Doubt, no_doubt}
+use Rattle.cap_plays.specs.Corresponds.{EachHas, EachHasEither, EndFate, end_in}
+
+-- the c-th call from here fails
+abbrev pub StopsAt : ℕ → Counts → Type 0
+StopsAt c counts = counts.stop ≡ Some (counts.calls + c)
+
+-- a call added these entries as one group of four device calls
+pub record Added {Entry : Type 0} (has : List ℕ → List Entry → Type 0) (images : List ℕ → Type 0) (old new added : List Entry) (before now : Counts) : Type 0 where
+  pub grown : new ≡ old ++ added
+  pub each : EachHas has images new
+  pub later : (c : ℕ) → StopsAt c before → (4 < c) × ((d : ℕ) → c ≡ 4 + d → StopsAt d now)
+
+-- one of its four device calls failed
+pub record Broke {Entry : Type 0} (has : List ℕ → List Entry → Type 0) (images : List ℕ → Type 0) (old added : List Entry) (before : Counts) : Type 0 where
+  pub each : EachHasEither has images old (old ++ added)
+  pub within : (c : ℕ) → StopsAt c before → c ≤ 4
+
+-- a line of one terminal, by its answer: it stands to its fate, on or off; after want of memory nothing is said
+abbrev pub LineSays : (stands : Bool → TerminalState → Doubt → Type 0) → (ended : Outcome) → EndFate → Result Outcome LineFault → Type 0
+LineSays stands ended fate (Ok outcome) = stands true fate.state fate.doubt × (outcome ≡ fate.outcome)
+LineSays stands ended fate (Err Disk) = stands false fate.state fate.doubt × (ended ≡ fate.outcome)
+LineSays stands ended fate (Err Memory) = ⊤
+
+-- the same, whichever state it stood to, and whichever of its device calls fails
+abbrev pub TurnSays : (old new : Bool → TerminalState → Doubt → Type 0) → (before : Counts) → (TerminalState → Turn) → Result Outcome LineFault → Type 0
+TurnSays old new before turn result =
+    (s : TerminalState) (c : ℕ) (ended : Outcome) → old true s (no_doubt 0) → 1 ≤ c → StopsAt c before
+    → LineSays new ended (end_in s (turn s).works (turn s).outcome ended c) result

@@ -1,0 +1,116 @@
+-- The laws of schedules: what they name is a run, in which the ends agree; without faults it is one run; and at its end every end is on.
+use Rattle.std.specs.Prelude.{◌≡◌, ◌⊎◌, ⊤, ℕ, ◌≤◌, true, List, Option, Some, slice_get}
+use Rattle.std.specs.List.{AllByRecursion}
+use Rattle.cap_leaf.specs.Date.{DateParts}
+use Rattle.cap_msgs.specs.Received.{Received, Read, Unread}
+use Rattle.cap_msgs.specs.Reads.{Reads}
+use Rattle.cap_entries.specs.declared.terminal.TermEntry.{TermEntry}
+use Rattle.cap_entries.specs.declared.host.HostEntry.{HostEntry}
+use Rattle.cap_entries.specs.Log.{log}
+use Rattle.cap_plain.specs.Agreed.{Agreed}
+use Rattle.cap_terminal.specs.Sends.{may_be_wanted}
+use Rattle.cap_schedule.specs.declared.schedule.Prefix.{Prefix}
+use Rattle.cap_schedule.specs.declared.schedule.Prefix.TheVariants.{Cut, Fail}
+use Rattle.cap_schedule.specs.declared.schedule.Order.{Order}
+use Rattle.cap_schedule.specs.declared.schedule.Order.TheVariants.{Batch, Status, Hear}
+use Rattle.cap_schedule.specs.declared.schedule.HostOrder.{HostOrder}
+use Rattle.cap_schedule.specs.declared.schedule.HostOrder.TheVariants.{Listen}
+use Rattle.cap_schedule.specs.declared.schedule.Action.{Action}
+use Rattle.cap_schedule.specs.declared.schedule.Action.TheVariants.{AtTerminal, AtHost}
+use Rattle.cap_schedule.specs.declared.schedule.Line.{Line}
+use Rattle.cap_schedule.specs.declared.schedule.Schedule.{Schedule}
+use Rattle.cap_world.specs.World.{TerminalState, World, Happening, SetUpsMatch, first, Run, May}
+use Rattle.cap_plays.specs.Turns.{Scene, world_of}
+use Rattle.cap_plays.specs.Plays.{Played, Does, least_play, AreDates}
+
+-- each list of bytes reads as this
+abbrev pub IsReader : (List ℕ → Received) → Type 0
+IsReader reads = (bytes : List ℕ) → Reads bytes (reads bytes)
+
+-- the host of a schedule, or one of its terminals
+abbrev pub IsParty : Schedule → List ℕ → Type 0
+IsParty s name = (name ≡ s.host.host) ⊎ ((place : ℕ) × (slice_get s.host.terminals place ≡ Some name))
+
+-- it is no message whose sender and receiver both are parties of the schedule
+abbrev pub IsNobodys : Schedule → Received → Type 0
+IsNobodys s (Unread fault) = ⊤
+IsNobodys s (Read message) = IsParty s message.header.from → IsParty s message.header.to → ⊥
+
+-- the numbers of a line are in range
+abbrev pub IsOrderInRange : Order → Type 0
+IsOrderInRange (Batch limit) = (1 ≤ limit) × (limit ≤ 100)
+IsOrderInRange (Status wanted) = may_be_wanted wanted ≡ true
+IsOrderInRange _ = ⊤
+
+abbrev pub IsInRange : Action → Type 0
+IsInRange (AtTerminal place order) = IsOrderInRange order
+IsInRange _ = ⊤
+
+-- the set-ups of a schedule name each other and keep their rules, and its lines are in range
+pub record InRange (s : Schedule) : Type 0 where
+  pub set_ups : SetUpsMatch s.host s.terminals
+  pub lines : AllByRecursion (λ (line : Line). IsInRange line.action) s.lines
+
+-- the noise of a line is nobody's
+abbrev pub IsNoiseOfOrder : (reads : List ℕ → Received) → Schedule → Order → Type 0
+IsNoiseOfOrder reads s (Hear bytes) = IsNobodys s (reads bytes)
+IsNoiseOfOrder reads s _ = ⊤
+
+abbrev pub IsNoiseOfHostOrder : (reads : List ℕ → Received) → Schedule → HostOrder → Type 0
+IsNoiseOfHostOrder reads s (Listen bytes) = IsNobodys s (reads bytes)
+IsNoiseOfHostOrder reads s _ = ⊤
+
+abbrev pub IsNoise : (reads : List ℕ → Received) → Schedule → Action → Type 0
+IsNoise reads s (AtTerminal place order) = IsNoiseOfOrder reads s order
+IsNoise reads s (AtHost order) = IsNoiseOfHostOrder reads s order
+IsNoise reads s _ = ⊤
+
+-- the same of each line
+abbrev pub NoiseIsNobodys : (reads : List ℕ → Received) → Schedule → Type 0
+NoiseIsNobodys reads s = AllByRecursion (λ (line : Line). IsNoise reads s line.action) s.lines
+
+abbrev pub first_world : Schedule → World
+first_world s = first s.host s.terminals
+
+-- some steps lead from the first world of a schedule to this scene
+abbrev pub IsReached : Schedule → Scene → Type 0
+IsReached s w = (happenings : List Happening) × Run (first_world s) happenings (world_of w)
+
+abbrev pub EveryPlayIsARun : Type 0
+EveryPlayIsARun =
+    (reads : List ℕ → Received) (s : Schedule) (played : Played)
+    → InRange s → NoiseIsNobodys reads s → Does reads s played → Run (first_world s) played.happenings (world_of played.last)
+
+-- the ends agree in a world: for each terminal, whatever a power cut may have left at either end
+abbrev pub EndsAgree : World → Type 0
+EndsAgree w =
+    (place : ℕ) (s : TerminalState) → slice_get w.terminals place ≡ Some s
+    → (entries : List TermEntry) → May s.settled s.tried entries
+    → (others : List HostEntry) → May w.host.settled w.host.tried others
+    → Agreed entries (log others place)
+
+abbrev pub EveryPlayAgrees : Type 0
+EveryPlayAgrees =
+    (reads : List ℕ → Received) (s : Schedule) (played : Played)
+    → InRange s → NoiseIsNobodys reads s → Does reads s played → EndsAgree (world_of played.last)
+
+-- no device call of a line is cut or fails
+abbrev pub IsWhole : Option Prefix → Type 0
+IsWhole (Some (Cut call fill)) = ⊥
+IsWhole (Some (Fail call fill)) = ⊥
+IsWhole _ = ⊤
+
+-- a schedule without cuts and faults at device calls names exactly one run, once each line's moment has its date and time
+abbrev pub OnePlayWithoutFaults : Type 0
+OnePlayWithoutFaults =
+    (reads : List ℕ → Received) (s : Schedule) → AllByRecursion (λ (line : Line). IsWhole line.prefix) s.lines
+    → ((dates : List DateParts) → AreDates s.lines dates → Does reads s (least_play reads dates s))
+    × ((played : Played) → Does reads s played → (dates : List DateParts) × AreDates s.lines dates × (played ≡ least_play reads dates s))
+
+-- after a play every end is on
+pub record AllOn (w : Scene) : Type 0 where
+  pub host : w.host.on ≡ true
+  pub terminals : (place : ℕ) (s : TerminalState) → slice_get w.terminals place ≡ Some s → s.on ≡ true
+
+abbrev pub EveryPlayEndsOn : Type 0
+EveryPlayEndsOn = (reads : List ℕ → Received) (s : Schedule) (played : Played) → Does reads s played → AllOn played.last

@@ -1,0 +1,14 @@
+pub mod Turns
+pub mod Plays
+pub mod Laws
+pub mod Report
+pub mod Session
+pub mod Corresponds
+pub mod Holding
+pub mod Ends
+pub mod Openings
+pub mod Answers
+pub mod Hosts
+pub mod Calls
+pub mod Lines
+pub mod Worked

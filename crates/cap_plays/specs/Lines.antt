@@ -1,0 +1,76 @@
+-- What a line of one terminal says follows from what its calls say, step by step.
+use Rattle.std.proofs.Common.{◌≡◌, ℕ, ◌+◌, ◌-◌, ◌≤◌, ◌<◌, Bool, true, false, List, [], ◌∷◌, ◌++◌, refl, sym, ◌∙◌, ap, subst, append-nil, arith}
+use Rattle.std.specs.Prelude.{Result, Ok, Err, nat_le}
+use Rattle.std.proofs.lemmas.Bool.{cond-true, cond-false, le-leb, lt-leb}
+use Rattle.cap_msgs.specs.declared.message.Message.{Message}
+use Rattle.cap_entries.specs.declared.terminal.TermEntry.{TermEntry}
+use Rattle.cap_disk.specs.Disk.{Counts}
+use Rattle.cap_host_ledger.specs.Ledger.{calls_for}
+use Rattle.cap_schedule.specs.declared.outcome.Outcome.{Outcome}
+use Rattle.cap_world.specs.World.{TerminalState}
+use Rattle.cap_plays.specs.declared.fault.LineFault.{LineFault}
+use Rattle.cap_plays.specs.declared.fault.LineFault.TheVariants.{Disk}
+use Rattle.cap_plays.specs.Turns.{Work, worked, Turn}
+use Rattle.cap_plays.specs.Plays.{Doubt, no_doubt}
+use Rattle.cap_plays.specs.Corresponds.{EachHas, EachHasEither, TerminalCorresponds, end_in}
+use Rattle.cap_plays.specs.Calls.{StopsAt, Added, Broke, LineSays}
+use Rattle.cap_plays.specs.Ends.{call_done, call_broken}
+
+module _ (has : List ℕ → List TermEntry → Type 0) (answers : List Message) (places : List ℕ) where
+  abbrev pub Stands : (List ℕ → Type 0) → List TermEntry → List Message → Bool → TerminalState → Doubt → Type 0
+  Stands images entries sent on s doubt = TerminalCorresponds has images on entries sent answers s places doubt
+
+  -- a line that makes no step, or no further one
+  pub said_line : (images : List ℕ → Type 0) (entries : List TermEntry) (sent : List Message) (s : TerminalState) (outcome ended : Outcome) (c : ℕ)
+      → Stands images entries sent true s (no_doubt 0) → LineSays (Stands images entries sent) ended (end_in s [] outcome ended c) (Ok outcome)
+  said_line images entries sent s outcome ended c stands = (stands, refl)
+
+  -- a device call failed in a line's first step
+  pub broken_line : (before_images images : List ℕ → Type 0) (old new : List TermEntry) (sent : List Message) (before : Counts) (s : TerminalState) (work : Work) (works : List Work) (outcome ended : Outcome) (c : ℕ)
+      → Stands before_images old sent true s (no_doubt 0) → calls_for work.added ≡ 4 → StopsAt c before → Broke has images old work.added before
+      → LineSays (Stands images new sent) ended (end_in s (work ∷ works) outcome ended c) (Err Disk)
+  broken_line before_images images old new sent before s work works outcome ended c stands four stops broke =
+      let high : c ≤ 4 = broke.within c stops in
+      let is : old ≡ s.settled = stands.end.entries_are refl in
+      let each : EachHasEither has images s.settled (s.settled ++ work.added) = subst (λ l. EachHasEither has images l (l ++ work.added)) is broke.each in
+      let broken = call_broken has images before_images old new sent answers s places (no_doubt 0) work stands each in
+      let hit : nat_le c (calls_for work.added) ≡ true = subst (λ n. nat_le c n ≡ true) (sym four) (le-leb c 4 high) in
+      subst (λ f. LineSays (Stands images new sent) ended f (Err Disk)) (sym (cond-true (nat_le c (calls_for work.added)) _ _ hit)) (broken, refl)
+
+  -- a line's first step added its entries, and the line goes on
+  pub added_line : (before_images images : List ℕ → Type 0) (old new : List TermEntry) (sent sent_now : List Message) (before now : Counts) (s : TerminalState) (work : Work) (rest : Turn) (ended : Outcome) (c : ℕ)
+      (stands_last : Bool → TerminalState → Doubt → Type 0) (result : Result Outcome LineFault)
+      → Stands before_images old sent true s (no_doubt 0) → calls_for work.added ≡ 4 → StopsAt c before → Added has images old new work.added before now → sent_now ≡ sent ++ work.sent
+      → ((d : ℕ) → 1 ≤ d → StopsAt d now → Stands images new sent_now true (worked s work) (no_doubt 0) → LineSays stands_last ended (end_in (worked s work) rest.works rest.outcome ended d) result)
+      → LineSays stands_last ended (end_in s (work ∷ rest.works) rest.outcome ended c) result
+  added_line before_images images old new sent sent_now before now s work rest ended c stands_last result stands four stops added sent_is goes_on =
+      let later = added.later c stops in
+      let lt : 4 < c = later.0 in
+      let d : ℕ = c - 4 in
+      let split : c ≡ 4 + d = omega (arith, lt) in
+      let positive : 1 ≤ d = omega (arith, lt) in
+      let is : old ≡ s.settled = stands.end.entries_are refl in
+      let grown : new ≡ s.settled ++ work.added = added.grown ∙ ap (λ l. l ++ work.added) is in
+      let next : Stands images new sent_now true (worked s work) (no_doubt 0) =
+      call_done has images before_images old new sent sent_now answers s places (no_doubt 0) work stands grown (sent_is ∙ ap (λ l. l ++ work.sent) stands.sent_is) added.each in
+      let past : nat_le c (calls_for work.added) ≡ false = subst (λ n. nat_le c n ≡ false) (sym four) (lt-leb c 4 lt) in
+      let after : c - calls_for work.added ≡ d = ap (λ n. c - n) four in
+      subst (λ f. LineSays stands_last ended f result) (sym (cond-false (nat_le c (calls_for work.added)) _ _ past))
+      (subst (λ n. LineSays stands_last ended (end_in (worked s work) rest.works rest.outcome ended n) result) (sym after) (goes_on d positive (later.1 d split) next))
+
+  -- a line's first step adds nothing: it sends, or hears what adds nothing
+  pub quiet_line : (images : List ℕ → Type 0) (entries : List TermEntry) (sent sent_now : List Message) (s : TerminalState) (work : Work) (rest : Turn) (ended : Outcome) (c : ℕ)
+      (stands_last : Bool → TerminalState → Doubt → Type 0) (result : Result Outcome LineFault)
+      → Stands images entries sent true s (no_doubt 0) → work.added ≡ [] → 1 ≤ c → EachHas has images entries → sent_now ≡ sent ++ work.sent
+      → (Stands images entries sent_now true (worked s work) (no_doubt 0) → LineSays stands_last ended (end_in (worked s work) rest.works rest.outcome ended c) result)
+      → LineSays stands_last ended (end_in s (work ∷ rest.works) rest.outcome ended c) result
+  quiet_line images entries sent sent_now s work rest ended c stands_last result stands none low each sent_is goes_on =
+      let is : entries ≡ s.settled ++ work.added = stands.end.entries_are refl ∙ sym (append-nil s.settled) ∙ ap (λ l. s.settled ++ l) (sym none) in
+      let next : Stands images entries sent_now true (worked s work) (no_doubt 0) =
+      call_done has images images entries entries sent sent_now answers s places (no_doubt 0) work stands is (sent_is ∙ ap (λ l. l ++ work.sent) stands.sent_is) each in
+      let zero_calls : calls_for work.added ≡ 0 = ap (λ (l : List TermEntry). calls_for l) none in
+      let positive : 0 < c = omega (arith, low) in
+      let past : nat_le c (calls_for work.added) ≡ false = subst (λ n. nat_le c n ≡ false) (sym zero_calls) (lt-leb c 0 positive) in
+      let same : c - calls_for work.added ≡ c = ap (λ n. c - n) zero_calls ∙ (let e : c - 0 ≡ c = omega arith in e) in
+      subst (λ f. LineSays stands_last ended f result) (sym (cond-false (nat_le c (calls_for work.added)) _ _ past))
+      (subst (λ n. LineSays stands_last ended (end_in (worked s work) rest.works rest.outcome ended n) result) (sym same) (goes_on next))

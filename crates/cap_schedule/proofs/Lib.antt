@@ -1,0 +1,6 @@
+mod Digits
+mod OtherLines
+mod Reading
+mod Several
+mod Sound
+mod Splitting

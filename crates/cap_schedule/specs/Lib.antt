@@ -1,0 +1,13 @@
+pub mod Actions
+pub mod Blocks
+pub mod Hex
+pub mod Language
+pub mod Matching
+pub mod Noise
+pub mod Outcomes
+pub mod Prefixes
+pub mod PublishedRows
+pub mod Ranges
+pub mod Reader
+pub mod SetUps
+pub mod Several

@@ -4,3 +4,4 @@ pub mod Singles
 pub mod Closing
 pub mod Sessions
 pub mod Worked
+pub mod Dates

@@ -71,7 +71,7 @@ same_there (a ∷ list) zero x there = ap (λ b. b ∷ list) (sym (same_Some _ _
 same_there (a ∷ list) (suc place) x there = ap (λ l. a ∷ l) (same_there list place x there)
 
 -- nothing arrives
-quiet : (w : Scene) (host : HostState) → with_host w host ≡ arrived w host 0 [] false
+pub quiet : (w : Scene) (host : HostState) → with_host w host ≡ arrived w host 0 [] false
 quiet w host = ap (λ (l : List TerminalState). let v : Scene = record { host = host; terminals = l; counted = w.counted } in v) (sym (delivered_none w.terminals 0))
 
 -- what a line makes of the scene is what it makes of the host, and what arrives
@@ -125,6 +125,10 @@ module _ {T H : Type 0} (of_terminal : T → TerminalState → List ℕ → Doub
       → Stands host terminals w doubts → of_host new state doubt → Stands new terminals (with_host w state) (with_doubt doubts Host doubt)
   host_changes host new terminals w doubts state doubt stands is =
       record { host_is = is; same = stands.same; same_counted = stands.same_counted; same_doubts = stands.same_doubts; each = stands.each }
+
+  -- nothing arrives
+  pub nothing_arrives : (host : H) (terminals : List T) (w : Scene) (doubts : Doubts) → Stands host terminals w doubts → Stands host terminals (arrived w w.host 0 [] false) doubts
+  nothing_arrives host terminals w doubts stands = subst (λ v. Stands host terminals v doubts) (quiet w w.host) stands
 
   -- messages arrive at a terminal, and count or not
   arrives : (host : H) (terminals : List T) (w : Scene) (doubts : Doubts) (receiver : ℕ) (t : T) (s : TerminalState) (replies : List Message) (counts : Bool)

@@ -21,6 +21,7 @@ use Rattle.cap_schedule.specs.declared.schedule.Line.{Line}
 use Rattle.cap_schedule.specs.declared.schedule.Schedule.{Schedule}
 use Rattle.cap_world.specs.World.{TerminalState, World, Happening, SetUpsMatch, first, Run, May}
 use Rattle.cap_plays.specs.Turns.{Scene, world_of}
+use Rattle.cap_plays.specs.Report.{report}
 use Rattle.cap_plays.specs.Plays.{Played, Does, least_play, AreDates}
 
 -- each list of bytes reads as this
@@ -106,6 +107,18 @@ OnePlayWithoutFaults =
     (reads : List ℕ → Received) (s : Schedule) → AllByRecursion (λ (line : Line). IsWhole line.prefix) s.lines
     → ((dates : List DateParts) → AreDates s.lines dates → Does reads s (least_play reads dates s))
     × ((played : Played) → Does reads s played → (dates : List DateParts) × AreDates s.lines dates × (played ≡ least_play reads dates s))
+
+-- two plays make the same steps, with the same outcomes, and have one text
+pub record SameButForDates (s : Schedule) (played other : Played) : Type 0 where
+  pub happenings : played.happenings ≡ other.happenings
+  pub outcomes : played.outcomes ≡ other.outcomes
+  pub text : report s played ≡ report s other
+
+-- whatever dates and times its messages bear, a schedule without cuts and faults at device calls has one text
+abbrev pub OneTextWithoutFaults : Type 0
+OneTextWithoutFaults =
+    (reads : List ℕ → Received) (s : Schedule) (played other : Played) → AllByRecursion (λ (line : Line). IsWhole line.prefix) s.lines
+    → Does reads s played → Does reads s other → SameButForDates s played other
 
 -- after a play every end is on
 pub record AllOn (w : Scene) : Type 0 where

@@ -1,6 +1,6 @@
 //! Laws over every run that a schedule names. Each is a function without a body whose contract is the law, so that whoever calls it has the law.
 
-ghost use Rattle.cap_plays.specs.Laws.{EveryPlayIsARun, EveryPlayAgrees, OnePlayWithoutFaults, EveryPlayEndsOn};
+ghost use Rattle.cap_plays.specs.Laws.{EveryPlayIsARun, EveryPlayAgrees, OnePlayWithoutFaults, OneTextWithoutFaults, EveryPlayEndsOn};
 ghost use Rattle.cap_plays.specs.Worked.{WorkedSchedules};
 
 /// What a schedule names is a run of the model of a host and its terminals.
@@ -18,6 +18,11 @@ pub fn every_play_agrees()
 /// A schedule without cuts and faults at device calls names exactly one run.
 pub fn one_play_without_faults()
     ensures { OnePlayWithoutFaults }
+{}
+
+/// Nor does anything depend on the dates that messages bear: such a schedule has one text.
+pub fn one_text_without_faults()
+    ensures { OneTextWithoutFaults }
 {}
 
 /// At the end of a schedule every end is on.

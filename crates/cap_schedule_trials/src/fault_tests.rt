@@ -4,6 +4,7 @@ use std::alloc::{AllocError, Global};
 use std::test::Fail;
 
 const HOST: &str = "host ACQ1 limit 500.00 block 411111 poll 60\n";
+
 const SET_UP: &str =
     "host ACQ1 limit 500.00 block 411111 poll 60\nterminal T1 max 1000 floor 20.00\n";
 
@@ -34,15 +35,34 @@ fn missing_lines_and_skipped_lines(rt: HostRuntime) -> Result<(), Fail> {
         ("host ACQ1 limit 500.00 block none poll 60", 2),
         ("host ACQ1 limit 500.00 block none poll 60\n\n\n", 4),
         ("terminal T1 max 1000 floor 20.00\n", 1),
-        ("host ACQ1 limit 500.00 block none poll 60\npush T1\nterminal T1 max 1 floor 0\n", 2),
-        ("host ACQ1 limit 500.00 block none poll 60\npublish A=1\n", 2),
-        ("\r\n# \u{e4}\n\nhost ACQ1 limit 500.00 block none poll 60\n#\nterminal T1 max 1 floor 0\n\npush T2", 8),
-        ("host ACQ1 limit 500.00 block none poll 60\r\nterminal T1 max 1 floor 0\r\npush T1\r\n", 0),
-        ("host ACQ1 limit 500.00 block none poll 60\nterminal T1 max 1 floor 0\r", 2),
+        (
+            "host ACQ1 limit 500.00 block none poll 60\npush T1\nterminal T1 max 1 floor 0\n",
+            2,
+        ),
+        (
+            "host ACQ1 limit 500.00 block none poll 60\npublish A=1\n",
+            2,
+        ),
+        (
+            "\r\n# \u{e4}\n\nhost ACQ1 limit 500.00 block none poll 60\n#\nterminal T1 max 1 floor 0\n\npush T2",
+            8,
+        ),
+        (
+            "host ACQ1 limit 500.00 block none poll 60\r\nterminal T1 max 1 floor 0\r\npush T1\r\n",
+            0,
+        ),
+        (
+            "host ACQ1 limit 500.00 block none poll 60\nterminal T1 max 1 floor 0\r",
+            2,
+        ),
         ("host ACQ1 limit 500.00 block none poll 60\r\r\n", 1),
         (SET_UP, 0),
     ] {
-        assert_eq!(rt; faulty_line(rt.alloc(), text.as_bytes()), Some(line), "at {text}");
+        assert_eq!(rt;
+            faulty_line(rt.alloc(), text.as_bytes()),
+            Some(line),
+            "at {text}"
+        );
     }
     Ok(())
 }
@@ -65,7 +85,11 @@ fn faulty_set_up_lines(rt: HostRuntime) -> Result<(), Fail> {
         (" host ACQ1 limit 1 block none poll 0", 1),
         ("host\tACQ1 limit 1 block none poll 0", 1),
     ] {
-        assert_eq!(rt; faulty_line(rt.alloc(), line.as_bytes()), Some(number), "at {line}");
+        assert_eq!(rt;
+            faulty_line(rt.alloc(), line.as_bytes()),
+            Some(number),
+            "at {line}"
+        );
     }
     for (line, number) in [
         ("terminal T2 max 0000000007 floor 0", 0),
@@ -86,7 +110,8 @@ fn faulty_set_up_lines(rt: HostRuntime) -> Result<(), Fail> {
 
 #[test]
 fn sixteen_terminals(rt: HostRuntime) -> Result<(), Fail> {
-    let more = "terminal A max 1 floor 0\nterminal B max 1 floor 0\nterminal C max 1 floor 0\nterminal D max 1 floor 0\nterminal E max 1 floor 0\nterminal F max 1 floor 0\nterminal G max 1 floor 0\nterminal H max 1 floor 0\nterminal I max 1 floor 0\nterminal J max 1 floor 0\nterminal K max 1 floor 0\nterminal L max 1 floor 0\nterminal M max 1 floor 0\nterminal N max 1 floor 0\nterminal O max 1 floor 0\n";
+    let more =
+        "terminal A max 1 floor 0\nterminal B max 1 floor 0\nterminal C max 1 floor 0\nterminal D max 1 floor 0\nterminal E max 1 floor 0\nterminal F max 1 floor 0\nterminal G max 1 floor 0\nterminal H max 1 floor 0\nterminal I max 1 floor 0\nterminal J max 1 floor 0\nterminal K max 1 floor 0\nterminal L max 1 floor 0\nterminal M max 1 floor 0\nterminal N max 1 floor 0\nterminal O max 1 floor 0\n";
     let text = text_of(rt.alloc(), &[SET_UP, more, "push O\n"])?;
     assert_eq!(rt; faulty_line(rt.alloc(), &text), Some(0));
     let text = text_of(rt.alloc(), &[SET_UP, more, "terminal P max 1 floor 0\n"])?;
@@ -184,7 +209,11 @@ fn messages_between_parties_are_no_noise(rt: HostRuntime) -> Result<(), Fail> {
         ("T1", "ACQ2", 0),
         ("T_1", "ACQ1", 0),
     ] {
-        assert_eq!(rt; message_line(rt.alloc(), from, to), Some(line), "from {from} to {to}");
+        assert_eq!(rt;
+            message_line(rt.alloc(), from, to),
+            Some(line),
+            "from {from} to {to}"
+        );
     }
     Ok(())
 }

@@ -44,7 +44,7 @@ use Rattle.cap_world.specs.World.{TerminalState, World, TerminalDoes, HostDoes, 
 use Rattle.cap_plays.specs.Turns.{Scene, world_of, counted_at, nth, Work, worked, Turn, next_sale, next_period, begins, offline_turn, sends_head, if_cancellable, Decided, on_response, decided, decides_on, hears_it, hears, turn_of, HostWork, HostTurn, replies_with, answers_it, answers_terminal, host_turn_of}
 use Rattle.cap_plays.specs.Plays.{Made, made, all_made, host_made, opens, host_opens, Plan, fails_first, terminal_plan, plan, opening_plan, Fate, fate, fate_of, fate_whole, fate_in, fate_after, fate_cut_after, off_at, terminal_off, acting, is_on, is_possible, terminal_is_on, with_terminal, closing_fate, Doubt, Doubts, doubt_at, with_doubt, moment_of, Played, Reopens, Plays, ends_of, first_scene, first_doubts}
 use Rattle.cap_plays.specs.Laws.{IsOrderInRange, IsInRange, InRange, IsNoiseOfOrder, IsNoiseOfHostOrder, IsNoise, first_world, IsReached, EveryPlayIsARun}
-use Rattle.cap_plays.proofs.SetUps.{IsSetUp, reached_set_up, noise_is_not_ours, noise_is_foreign}
+use Rattle.cap_plays.specs.SetUps.{IsSetUp, reached_set_up, noise_is_not_ours, noise_is_foreign}
 
 -- these steps of a terminal are made one after the other
 abbrev Works : TerminalState → List Work → Type 0

@@ -1,4 +1,3 @@
-pub mod SetUps
 pub mod Chains
 pub mod Singles
 pub mod Closing

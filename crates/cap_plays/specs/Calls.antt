@@ -1,7 +1,8 @@
 -- What the adding calls of a terminal say over a disk that counts its device calls, and what a line of one terminal says.
-use Rattle.std.specs.Prelude.{◌≡◌, ⊤, [], ℕ, ◌+◌, ◌≤◌, ◌<◌, Bool, true, false, List, ◌++◌, Some, Result, Ok, Err}
+use Rattle.std.specs.Prelude.{◌≡◌, ◌-◌, ⊤, [], ℕ, ◌≤◌, ◌<◌, Bool, true, false, List, ◌++◌, Result, Ok, Err}
 use Rattle.cap_msgs.specs.declared.message.Message.{Message}
 use Rattle.cap_disk.specs.Disk.{Counts}
+use Rattle.cap_journal.specs.Told.{StopsAt}
 use Rattle.cap_schedule.specs.declared.outcome.Outcome.{Outcome}
 use Rattle.cap_world.specs.World.{TerminalState, HostState}
 use Rattle.cap_plays.specs.declared.fault.LineFault.{LineFault}
@@ -10,15 +11,11 @@ use Rattle.cap_plays.specs.Turns.{Turn}
 use Rattle.cap_plays.specs.Plays.{Doubt, no_doubt}
 use Rattle.cap_plays.specs.Corresponds.{EachHas, EachHasEither, EndFate, end_in, HostFate}
 
--- the c-th call from here fails
-abbrev pub StopsAt : ℕ → Counts → Type 0
-StopsAt c counts = counts.stop ≡ Some (counts.calls + c)
-
 -- a call added these entries as one group of four device calls
 pub record Added {Entry : Type 0} (has : List ℕ → List Entry → Type 0) (images : List ℕ → Type 0) (old new added : List Entry) (before now : Counts) : Type 0 where
   pub grown : new ≡ old ++ added
   pub each : EachHas has images new
-  pub later : (c : ℕ) → StopsAt c before → (4 < c) × ((d : ℕ) → c ≡ 4 + d → StopsAt d now)
+  pub later : (c : ℕ) → StopsAt c before → 0 < c → (4 < c) × StopsAt (c - 4) now
 
 -- one of its four device calls failed
 pub record Broke {Entry : Type 0} (has : List ℕ → List Entry → Type 0) (images : List ℕ → Type 0) (old added : List Entry) (before : Counts) : Type 0 where

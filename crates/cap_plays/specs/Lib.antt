@@ -1,6 +1,7 @@
 pub mod Turns
 pub mod Plays
 pub mod Laws
+pub mod SetUps
 pub mod Report
 pub mod Session
 pub mod Corresponds

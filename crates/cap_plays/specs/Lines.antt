@@ -7,6 +7,7 @@ use Rattle.cap_entries.specs.declared.terminal.TermEntry.{TermEntry}
 use Rattle.cap_entries.specs.declared.host.HostEntry.{HostEntry}
 use Rattle.cap_disk.specs.Disk.{Counts}
 use Rattle.cap_host_ledger.specs.Ledger.{calls_for}
+use Rattle.cap_journal.specs.Told.{StopsAt}
 use Rattle.cap_schedule.specs.declared.outcome.Outcome.{Outcome}
 use Rattle.cap_world.specs.World.{TerminalState, HostState}
 use Rattle.cap_plays.specs.declared.fault.LineFault.{LineFault}
@@ -14,7 +15,7 @@ use Rattle.cap_plays.specs.declared.fault.LineFault.TheVariants.{Disk}
 use Rattle.cap_plays.specs.Turns.{Work, worked, Turn, HostWork}
 use Rattle.cap_plays.specs.Plays.{Doubt, no_doubt}
 use Rattle.cap_plays.specs.Corresponds.{EachHas, EachHasEither, TerminalCorresponds, end_in, EndCorresponds, host_in}
-use Rattle.cap_plays.specs.Calls.{StopsAt, Added, Broke, LineSays, HostLineSays}
+use Rattle.cap_plays.specs.Calls.{Added, Broke, LineSays, HostLineSays}
 use Rattle.cap_plays.specs.Holding.{end_added, end_broken}
 use Rattle.cap_plays.specs.Ends.{call_done, call_broken}
 
@@ -42,14 +43,14 @@ module _ (has : List ℕ → List TermEntry → Type 0) (answers : List Message)
   -- a line's first step added its entries, and the line goes on
   pub added_line : (before_images images : List ℕ → Type 0) (old new : List TermEntry) (sent sent_now : List Message) (before now : Counts) (s : TerminalState) (work : Work) (rest : Turn) (ended : Outcome) (c : ℕ)
       (stands_last : Bool → TerminalState → Doubt → Type 0) (result : Result Outcome LineFault)
-      → Stands before_images old sent true s (no_doubt 0) → calls_for work.added ≡ 4 → StopsAt c before → Added has images old new work.added before now → sent_now ≡ sent ++ work.sent
+      → Stands before_images old sent true s (no_doubt 0) → calls_for work.added ≡ 4 → 1 ≤ c → StopsAt c before → Added has images old new work.added before now → sent_now ≡ sent ++ work.sent
       → ((d : ℕ) → 1 ≤ d → StopsAt d now → Stands images new sent_now true (worked s work) (no_doubt 0) → LineSays stands_last ended (end_in (worked s work) rest.works rest.outcome ended d) result)
       → LineSays stands_last ended (end_in s (work ∷ rest.works) rest.outcome ended c) result
-  added_line before_images images old new sent sent_now before now s work rest ended c stands_last result stands four stops added sent_is goes_on =
-      let later = added.later c stops in
+  added_line before_images images old new sent sent_now before now s work rest ended c stands_last result stands four low stops added sent_is goes_on =
+      let some : 0 < c = omega (arith, low) in
+      let later = added.later c stops some in
       let lt : 4 < c = later.0 in
       let d : ℕ = c - 4 in
-      let split : c ≡ 4 + d = omega (arith, lt) in
       let positive : 1 ≤ d = omega (arith, lt) in
       let is : old ≡ s.settled = stands.end.entries_are refl in
       let grown : new ≡ s.settled ++ work.added = added.grown ∙ ap (λ l. l ++ work.added) is in
@@ -58,7 +59,7 @@ module _ (has : List ℕ → List TermEntry → Type 0) (answers : List Message)
       let past : nat_le c (calls_for work.added) ≡ false = subst (λ n. nat_le c n ≡ false) (sym four) (lt-leb c 4 lt) in
       let after : c - calls_for work.added ≡ d = ap (λ n. c - n) four in
       subst (λ f. LineSays stands_last ended f result) (sym (cond-false (nat_le c (calls_for work.added)) _ _ past))
-      (subst (λ n. LineSays stands_last ended (end_in (worked s work) rest.works rest.outcome ended n) result) (sym after) (goes_on d positive (later.1 d split) next))
+      (subst (λ n. LineSays stands_last ended (end_in (worked s work) rest.works rest.outcome ended n) result) (sym after) (goes_on d positive later.1 next))
 
   -- a line's first step adds nothing: it sends, or hears what adds nothing
   pub quiet_line : (images : List ℕ → Type 0) (entries : List TermEntry) (sent sent_now : List Message) (s : TerminalState) (work : Work) (rest : Turn) (ended : Outcome) (c : ℕ)
@@ -107,10 +108,11 @@ module _ (has : List ℕ → List HostEntry → Type 0) where
 
   -- its step added its entries
   pub host_added_line : (before_images images : List ℕ → Type 0) (old new : List HostEntry) (before now : Counts) (host : HostState) (work : HostWork) (outcome ended : Outcome) (c : ℕ)
-      → HostStands before_images old true host (no_doubt 0) → calls_for work.added ≡ 4 → StopsAt c before → Added has images old new work.added before now
+      → HostStands before_images old true host (no_doubt 0) → calls_for work.added ≡ 4 → 1 ≤ c → StopsAt c before → Added has images old new work.added before now
       → HostLineSays (HostStands images new) ended (host_in host (Some work) outcome ended c) work.receiver work.replies work.counts (Ok outcome)
-  host_added_line before_images images old new before now host work outcome ended c stands four stops added =
-      let lt : 4 < c = (added.later c stops).0 in
+  host_added_line before_images images old new before now host work outcome ended c stands four low stops added =
+      let some : 0 < c = omega (arith, low) in
+      let lt : 4 < c = (added.later c stops some).0 in
       let grown : new ≡ host.settled ++ work.added = added.grown ∙ ap (λ l. l ++ work.added) (stands.entries_are refl) in
       let past : nat_le c (calls_for work.added) ≡ false = subst (λ n. nat_le c n ≡ false) (sym four) (lt-leb c 4 lt) in
       host_past images new host work outcome ended c grown added.each past

@@ -1,4 +1,5 @@
 mod Digits
+mod Nobodys
 mod OtherLines
 mod Reading
 mod Several

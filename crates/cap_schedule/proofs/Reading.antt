@@ -14,6 +14,8 @@ use Rattle.cap_schedule.specs.SetUps.{is_terminal_line, opened}
 use Rattle.cap_schedule.specs.Language.{line_of, acting, read_words, read_line, Reads, Faulty, read_end, go_on, read_lines, reading}
 use Rattle.cap_schedule.specs.Matching.{Matching}
 use Rattle.cap_schedule.specs.Ranges.{InRange}
+use Rattle.cap_schedule.specs.Nobodys.{NoiseIsNobodys}
+use Rattle.cap_schedule.proofs.Nobodys.{all_nobodys}
 use Rattle.cap_schedule.proofs.Sound.{IsSound, IsSoundReading, reading_sound}
 
 pub same_line : (host other : List ℕ) (terminals others : List TerminalSettings) (number : ℕ) (words : List (List ℕ)) (found : Option Line) (line : Line)
@@ -41,15 +43,19 @@ no_lines [] n = refl
 no_lines (x ∷ rest) n = absurd (omega arith)
 
 pub sound_if : (reads : List ℕ → Received) (text rest : List ℕ) (number : ℕ) (draft : Draft) (result : Result Schedule ScheduleFault) → length rest ≡ 0
-    → read_lines reads (lines rest) number draft ≡ reading reads text → IfOk result (λ s. read_end draft number ≡ Reads s) → IfOk result IsSound
+    → read_lines reads (lines rest) number draft ≡ reading reads text → IfOk result (λ s. read_end draft number ≡ Reads s) → IfOk result (IsSound reads)
 sound_if reads text rest number draft (Err e) n inv end = tt
 sound_if reads text rest number draft (Ok s) n inv end =
-    subst IsSoundReading (sym inv ∙ (ap (λ these. read_lines reads these number draft) (no_lines rest n) ∙ end)) (reading_sound reads text)
+    subst (IsSoundReading reads) (sym inv ∙ (ap (λ these. read_lines reads these number draft) (no_lines rest n) ∙ end)) (reading_sound reads text)
 
-pub if_matching : (result : Result Schedule ScheduleFault) → IfOk result IsSound → IfOk result Matching
-if_matching (Err e) sound = tt
-if_matching (Ok s) sound = sound.0
+pub if_matching : (reads : List ℕ → Received) (result : Result Schedule ScheduleFault) → IfOk result (IsSound reads) → IfOk result Matching
+if_matching reads (Err e) sound = tt
+if_matching reads (Ok s) sound = sound.0
 
-pub if_in_range : (result : Result Schedule ScheduleFault) → IfOk result IsSound → IfOk result InRange
-if_in_range (Err e) sound = tt
-if_in_range (Ok s) sound = sound.1
+pub if_in_range : (reads : List ℕ → Received) (result : Result Schedule ScheduleFault) → IfOk result (IsSound reads) → IfOk result InRange
+if_in_range reads (Err e) sound = tt
+if_in_range reads (Ok s) sound = sound.1
+
+pub if_nobodys : (reads : List ℕ → Received) (result : Result Schedule ScheduleFault) → IfOk result (IsSound reads) → IfOk result (NoiseIsNobodys reads)
+if_nobodys reads (Err e) sound = tt
+if_nobodys reads (Ok s) sound = all_nobodys reads s sound.0 s.lines sound.2

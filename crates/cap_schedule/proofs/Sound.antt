@@ -1,5 +1,5 @@
--- What every schedule of the language keeps: its set-ups match, and its batches are in range.
-use Rattle.std.proofs.Common.{◌≡◌, ℕ, ◌+◌, ◌≤◌, Bool, true, false, ◌&&◌, List, [], ◌∷◌, ◌++◌, map, length, Option, Some, None, refl}
+-- What every schedule of the language keeps: its set-ups match, its lines are in range, and its noise is no message between its parties.
+use Rattle.std.proofs.Common.{◌≡◌, ℕ, ◌+◌, ◌≤◌, Bool, true, false, ◌&&◌, List, [], ◌∷◌, ◌++◌, map, length, Option, Some, None, refl, inl, inr}
 use Rattle.std.proofs.lemmas.Bool.{leb-true}
 use Rattle.std.specs.Prelude.{⊤, IfSome, if◌then◌else◌, nat_le, codes}
 use Rattle.std.specs.List.{AllByRecursion}
@@ -30,23 +30,24 @@ use Rattle.cap_schedule.specs.Prefixes.{prefix_in, after_prefix}
 use Rattle.cap_schedule.specs.Noise.{is_allowed}
 use Rattle.cap_schedule.specs.Language.{words_of, line_with, line_of, with_line, acting, hosted, with_terminal, read_words, is_skipped, read_line, Reading, Reads, Faulty, whole, read_end, go_on, read_lines, reading}
 use Rattle.cap_schedule.specs.Matching.{Matching}
+use Rattle.cap_schedule.proofs.Nobodys.{IsAllowedLine}
 use Rattle.cap_schedule.specs.Ranges.{OrderInRange, ActionInRange, LineInRange, InRange}
 
 -- of the host of this name, and within its ranges
 abbrev IsTerminalOf : List ℕ → TerminalSettings → Type 0
 IsTerminalOf host t = (t.host ≡ host) × (is_terminal_settings t ≡ true)
 
-abbrev pub IsSound : Schedule → Type 0
-IsSound s = Matching s × InRange s
+abbrev pub IsSound : (List ℕ → Received) → Schedule → Type 0
+IsSound reads s = Matching s × InRange s × AllByRecursion (IsAllowedLine reads s.host.host s.terminals) s.lines
 
-abbrev IsSoundDraft : Draft → Type 0
-IsSoundDraft Empty = ⊤
-IsSoundDraft (Hosted h terminals) = AllByRecursion (IsTerminalOf h.id) terminals
-IsSoundDraft (Acting s) = IsSound s
+abbrev IsSoundDraft : (List ℕ → Received) → Draft → Type 0
+IsSoundDraft reads Empty = ⊤
+IsSoundDraft reads (Hosted h terminals) = AllByRecursion (IsTerminalOf h.id) terminals
+IsSoundDraft reads (Acting s) = IsSound reads s
 
-abbrev pub IsSoundReading : Reading → Type 0
-IsSoundReading (Reads s) = IsSound s
-IsSoundReading (Faulty line) = ⊤
+abbrev pub IsSoundReading : (List ℕ → Received) → Reading → Type 0
+IsSoundReading reads (Reads s) = IsSound reads s
+IsSoundReading reads (Faulty line) = ⊤
 
 all_push : {X : Type 0} (P : X → Type 0) (xs : List X) (x : X) → AllByRecursion P xs → P x → AllByRecursion P (xs ++ x ∷ [])
 all_push P [] x all p = (p, tt)
@@ -86,9 +87,9 @@ terminal_sound host terminals (a ∷ id ∷ b ∷ max ∷ c ∷ floor ∷ []) =
     (values_sound host (ident_of id) (number_of 10 max) (money_of floor)) tt
 terminal_sound host terminals (a ∷ id ∷ b ∷ max ∷ c ∷ floor ∷ d ∷ more) = tt
 
-more_sound : (h : HostLine) (terminals : List TerminalSettings) (t : Option TerminalSettings) → AllByRecursion (IsTerminalOf h.id) terminals → IfSome t (IsTerminalOf h.id) → IfSome (with_terminal h terminals t) IsSoundDraft
-more_sound h terminals None all p = tt
-more_sound h terminals (Some t) all p = all_push (IsTerminalOf h.id) terminals t all p
+more_sound : (reads : List ℕ → Received) (h : HostLine) (terminals : List TerminalSettings) (t : Option TerminalSettings) → AllByRecursion (IsTerminalOf h.id) terminals → IfSome t (IsTerminalOf h.id) → IfSome (with_terminal h terminals t) (IsSoundDraft reads)
+more_sound reads h terminals None all p = tt
+more_sound reads h terminals (Some t) all p = all_push (IsTerminalOf h.id) terminals t all p
 
 all_hosts : (host : List ℕ) (terminals : List TerminalSettings) → AllByRecursion (IsTerminalOf host) terminals → AllByRecursion (λ t. t.host ≡ host) terminals
 all_hosts host [] all = tt
@@ -98,14 +99,14 @@ all_rules : (host : List ℕ) (terminals : List TerminalSettings) → AllByRecur
 all_rules host [] all = tt
 all_rules host (t ∷ terminals) (p, all) = (p.1, all_rules host terminals all)
 
-opened_if : (h : HostLine) (terminals : List TerminalSettings) → AllByRecursion (IsTerminalOf h.id) terminals → (test : Bool)
+opened_if : (reads : List ℕ → Received) (h : HostLine) (terminals : List TerminalSettings) → AllByRecursion (IsTerminalOf h.id) terminals → (test : Bool)
     → (test ≡ true → is_host_settings (host_of h (map (λ t. t.terminal) terminals)) ≡ true)
-    → IfSome (opened_with terminals (if test then Some (host_of h (map (λ t. t.terminal) terminals)) else None)) IsSound
-opened_if h terminals all true rule = (record { names = refl; hosts = all_hosts h.id terminals all; rules = all_rules h.id terminals all; host_rule = rule refl }, tt)
-opened_if h terminals all false rule = tt
+    → IfSome (opened_with terminals (if test then Some (host_of h (map (λ t. t.terminal) terminals)) else None)) (IsSound reads)
+opened_if reads h terminals all true rule = (record { names = refl; hosts = all_hosts h.id terminals all; rules = all_rules h.id terminals all; host_rule = rule refl }, tt, tt)
+opened_if reads h terminals all false rule = tt
 
-opened_sound : (h : HostLine) (terminals : List TerminalSettings) → AllByRecursion (IsTerminalOf h.id) terminals → IfSome (opened h terminals) IsSound
-opened_sound h terminals all = opened_if h terminals all (is_host_settings (host_of h (map (λ t. t.terminal) terminals))) (λ e. e)
+opened_sound : (reads : List ℕ → Received) (h : HostLine) (terminals : List TerminalSettings) → AllByRecursion (IsTerminalOf h.id) terminals → IfSome (opened h terminals) (IsSound reads)
+opened_sound reads h terminals all = opened_if reads h terminals all (is_host_settings (host_of h (map (λ t. t.terminal) terminals))) (λ e. e)
 
 -- actions
 
@@ -143,7 +144,7 @@ paid_in_range verb (Some amount) (Some account) =
 
 status_in_range : (word : List ℕ) → IfSome (status_order word) OrderInRange
 status_in_range word =
-    either OrderInRange (bytes_eq word (codes "AQPR")) _ _ tt (either OrderInRange (bytes_eq word (codes "MGTP")) _ _ tt tt)
+    either OrderInRange (bytes_eq word (codes "AQPR")) _ _ (inl refl) (either OrderInRange (bytes_eq word (codes "MGTP")) _ _ (inr refl) tt)
 
 placed_in_range : (place : Option ℕ) (order : Option Order) → IfSome order OrderInRange → IfSome (at_place place order) ActionInRange
 placed_in_range None order p = tt
@@ -201,52 +202,52 @@ line_in_range number None action p = tt
 line_in_range number (Some prefix) None p = tt
 line_in_range number (Some prefix) (Some action) p = p
 
-with_line_sound : (reads : List ℕ → Received) (s : Schedule) (line : Option Line) → IsSound s → IfSome line LineInRange → IfSome (with_line reads s line) IsSoundDraft
+with_line_sound : (reads : List ℕ → Received) (s : Schedule) (line : Option Line) → IsSound reads s → IfSome line LineInRange → IfSome (with_line reads s line) (IsSoundDraft reads)
 with_line_sound reads s None sound p = tt
 with_line_sound reads s (Some line) sound p =
-    where_true IsSoundDraft (is_allowed reads s.host.host s.terminals line.action)
-    (Acting (record { host = s.host; terminals = s.terminals; lines = s.lines ++ line ∷ [] })) (λ _. (sound.0, all_push LineInRange s.lines line sound.1 p))
+    where_true (IsSoundDraft reads) (is_allowed reads s.host.host s.terminals line.action)
+    (Acting (record { host = s.host; terminals = s.terminals; lines = s.lines ++ line ∷ [] })) (λ e. (sound.0, all_push LineInRange s.lines line sound.1 p, all_push (IsAllowedLine reads s.host.host s.terminals) s.lines line sound.2 e))
 
-acting_sound : (reads : List ℕ → Received) (s : Option Schedule) (number : ℕ) (words : List (List ℕ)) → IfSome s IsSound → IfSome (acting reads s number words) IsSoundDraft
+acting_sound : (reads : List ℕ → Received) (s : Option Schedule) (number : ℕ) (words : List (List ℕ)) → IfSome s (IsSound reads) → IfSome (acting reads s number words) (IsSoundDraft reads)
 acting_sound reads None number words sound = tt
 acting_sound reads (Some s) number words sound =
     with_line_sound reads s (line_of s.host.host s.terminals number words) sound
     (line_in_range number (prefix_in words) (action_of s.host.host s.terminals (after_prefix words)) (action_in_range s.host.host s.terminals (after_prefix words)))
 
-hosted_sound : (h : Option HostLine) → IfSome (hosted h) IsSoundDraft
-hosted_sound None = tt
-hosted_sound (Some h) = tt
+hosted_sound : (reads : List ℕ → Received) (h : Option HostLine) → IfSome (hosted h) (IsSoundDraft reads)
+hosted_sound reads None = tt
+hosted_sound reads (Some h) = tt
 
-words_sound : (reads : List ℕ → Received) (draft : Draft) (number : ℕ) (words : List (List ℕ)) → IsSoundDraft draft → IfSome (read_words reads draft number words) IsSoundDraft
-words_sound reads Empty number words sound = hosted_sound (host_line words)
+words_sound : (reads : List ℕ → Received) (draft : Draft) (number : ℕ) (words : List (List ℕ)) → IsSoundDraft reads draft → IfSome (read_words reads draft number words) (IsSoundDraft reads)
+words_sound reads Empty number words sound = hosted_sound reads (host_line words)
 words_sound reads (Hosted h terminals) number words sound =
-    either IsSoundDraft (is_terminal_line words) (with_terminal h terminals (terminal_line h.id terminals words)) (acting reads (opened h terminals) number words)
-    (more_sound h terminals (terminal_line h.id terminals words) sound (terminal_sound h.id terminals words))
-    (acting_sound reads (opened h terminals) number words (opened_sound h terminals sound))
+    either (IsSoundDraft reads) (is_terminal_line words) (with_terminal h terminals (terminal_line h.id terminals words)) (acting reads (opened h terminals) number words)
+    (more_sound reads h terminals (terminal_line h.id terminals words) sound (terminal_sound h.id terminals words))
+    (acting_sound reads (opened h terminals) number words (opened_sound reads h terminals sound))
 words_sound reads (Acting s) number words sound = acting_sound reads (Some s) number words sound
 
-line_sound : (reads : List ℕ → Received) (draft : Draft) (number : ℕ) (line : List ℕ) → IsSoundDraft draft → IfSome (read_line reads draft number line) IsSoundDraft
+line_sound : (reads : List ℕ → Received) (draft : Draft) (number : ℕ) (line : List ℕ) → IsSoundDraft reads draft → IfSome (read_line reads draft number line) (IsSoundDraft reads)
 line_sound reads draft number line sound =
-    either IsSoundDraft (is_skipped line) (Some draft) (read_words reads draft number (words_of line)) sound (words_sound reads draft number (words_of line) sound)
+    either (IsSoundDraft reads) (is_skipped line) (Some draft) (read_words reads draft number (words_of line)) sound (words_sound reads draft number (words_of line) sound)
 
-whole_sound : (s : Option Schedule) (number : ℕ) → IfSome s IsSound → IsSoundReading (whole s number)
-whole_sound None number p = tt
-whole_sound (Some s) number p = p
+whole_sound : (reads : List ℕ → Received) (s : Option Schedule) (number : ℕ) → IfSome s (IsSound reads) → IsSoundReading reads (whole s number)
+whole_sound reads None number p = tt
+whole_sound reads (Some s) number p = p
 
-end_sound : (draft : Draft) (number : ℕ) → IsSoundDraft draft → IsSoundReading (read_end draft number)
-end_sound Empty number sound = tt
-end_sound (Hosted h terminals) number sound = whole_sound (opened h terminals) number (opened_sound h terminals sound)
-end_sound (Acting s) number sound = sound
+end_sound : (reads : List ℕ → Received) (draft : Draft) (number : ℕ) → IsSoundDraft reads draft → IsSoundReading reads (read_end draft number)
+end_sound reads Empty number sound = tt
+end_sound reads (Hosted h terminals) number sound = whole_sound reads (opened h terminals) number (opened_sound reads h terminals sound)
+end_sound reads (Acting s) number sound = sound
 
-go_on_sound : (draft : Option Draft) (number : ℕ) (rest : Draft → Reading) → IfSome draft IsSoundDraft → ((d : Draft) → IsSoundDraft d → IsSoundReading (rest d)) → IsSoundReading (go_on draft number rest)
-go_on_sound None number rest sound more = tt
-go_on_sound (Some d) number rest sound more = more d sound
+go_on_sound : (reads : List ℕ → Received) (draft : Option Draft) (number : ℕ) (rest : Draft → Reading) → IfSome draft (IsSoundDraft reads) → ((d : Draft) → IsSoundDraft reads d → IsSoundReading reads (rest d)) → IsSoundReading reads (go_on draft number rest)
+go_on_sound reads None number rest sound more = tt
+go_on_sound reads (Some d) number rest sound more = more d sound
 
-lines_sound : (reads : List ℕ → Received) (ls : List (List ℕ)) (number : ℕ) (draft : Draft) → IsSoundDraft draft → IsSoundReading (read_lines reads ls number draft)
-lines_sound reads [] number draft sound = end_sound draft number sound
+lines_sound : (reads : List ℕ → Received) (ls : List (List ℕ)) (number : ℕ) (draft : Draft) → IsSoundDraft reads draft → IsSoundReading reads (read_lines reads ls number draft)
+lines_sound reads [] number draft sound = end_sound reads draft number sound
 lines_sound reads (line ∷ ls) number draft sound =
-    go_on_sound (read_line reads draft number line) number (read_lines reads ls (number + 1)) (line_sound reads draft number line sound)
+    go_on_sound reads (read_line reads draft number line) number (read_lines reads ls (number + 1)) (line_sound reads draft number line sound)
     (λ d sound'. lines_sound reads ls (number + 1) d sound')
 
-pub reading_sound : (reads : List ℕ → Received) (bytes : List ℕ) → IsSoundReading (reading reads bytes)
+pub reading_sound : (reads : List ℕ → Received) (bytes : List ℕ) → IsSoundReading reads (reading reads bytes)
 reading_sound reads bytes = lines_sound reads (lines bytes) 1 Empty tt

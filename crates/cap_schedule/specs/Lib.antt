@@ -3,6 +3,7 @@ pub mod Blocks
 pub mod Hex
 pub mod Language
 pub mod Matching
+pub mod Nobodys
 pub mod Noise
 pub mod Outcomes
 pub mod Prefixes

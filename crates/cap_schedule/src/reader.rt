@@ -4,6 +4,7 @@ ghost use Rattle.cap_schedule.specs.Reader.{IsReader};
 ghost use Rattle.cap_schedule.specs.Language.{line_with as spec_line_with, line_of as spec_line_of, with_line as spec_with_line, acting as spec_acting, hosted as spec_hosted, with_terminal as spec_with_terminal, read_words as spec_words, read_line as spec_line, read_end, reading, Reads, Faulty};
 ghost use Rattle.cap_schedule.specs.SetUps.{host_line as spec_host, terminal_line as spec_terminal};
 ghost use Rattle.cap_schedule.specs.Matching.{Matching};
+ghost use Rattle.cap_schedule.specs.Nobodys.{NoiseIsNobodys};
 ghost use Rattle.cap_schedule.specs.Ranges.{InRange};
 
 use crate::actions::action_of;
@@ -168,12 +169,14 @@ fn whole(alloc: Global, draft: Draft, number: u64) -> Result<Schedule, ScheduleF
     }
 }
 
-/// Reads a schedule. Its set-ups name each other and keep their rules. `Line` is the first line that isn't in the language: a line of noise whose
-/// bytes read as a message between parties of the schedule is one.
+/// Reads a schedule. Its set-ups name each other and keep their rules, and its numbers are in range. `Line` is the first line that isn't in the
+/// language: a line of noise whose bytes read as a message between parties of the schedule is one. Where a needed line is missing, it is one more
+/// than the number of lines. `Memory` is want of memory.
 pub fn read(alloc: Global, text: &[u8]) -> Result<Schedule, ScheduleFault>
     ensures ok { (reads : List ℕ → Received) → IsReader reads → IfOk result (λ s. reading reads text.now ≡ Reads s) }
     ensures matching { IfOk result Matching }
     ensures range { IfOk result InRange }
+    ensures noise { (reads : List ℕ → Received) → IsReader reads → IfOk result (NoiseIsNobodys reads) }
     ensures line { (k : _) → result ≡ Err (ScheduleFault.Line k) → (reads : List ℕ → Received) → IsReader reads → reading reads text.now ≡ Faulty k }
 {
     reading_is_exact();

@@ -227,7 +227,13 @@ impl<J: Journal<TermEntry>> Terminal<J> {
     /// `Disk`, and `Memory` or `Disk` may come; each other refusal comes exactly as `takes` says.
     pub fn handle_message(&mut self, message: &Message) -> Result<Handled, TermFault>
         requires range { is_message message.now ≡ true }
-        ensures takes { Handles J.entries J.has_failed J.tells J.moment J.left_since J.may_leave J.counts self.old self.new result (takes (J.entries self.old) (Read message.now)) }
+        ensures ok { OnOk result (J.entries self.new ≡ J.entries self.old ++ (takes (J.entries self.old) (Read message.now)).added) }
+        ensures answer { IfOk result (λ handled. (takes (J.entries self.old) (Read message.now)).answer ≡ Ok handled) }
+        ensures works { OnOk result (is_adding (takes (J.entries self.old) (Read message.now)).added ≡ true → J.has_failed self.old ≡ false) }
+        ensures refused { IfErr result (IsTakeCause (J.has_failed self.old) (takes (J.entries self.old) (Read message.now))) }
+        ensures any_moment { IsTrue (J.tells self.old) → J.has_failed self.old ≡ false → LeavesOnly J.moment J.left_since self.old self.new (HasEither term_reading (J.entries self.old) (J.entries self.old ++ (takes (J.entries self.old) (Read message.now)).added)) }
+        ensures in_doubt { IsTrue (J.tells self.old) → IsErrOf result TermFault.Disk → EveryImage J.may_leave self.new (HasEither term_reading (J.entries self.old) (J.entries self.old ++ (takes (J.entries self.old) (Read message.now)).added)) }
+        ensures counts { IsTrying 4 (J.counts self.old) (J.counts self.new) (IsOk result × (is_adding (takes (J.entries self.old) (Read message.now)).added ≡ true)) (IsErrOf result TermFault.Disk) (IsErrOf result TermFault.Memory) (MayTake (J.has_failed self.old) (takes (J.entries self.old) (Read message.now))) }
         ensures err { OnErr result (J.entries self.new ≡ J.entries self.old) }
         ensures disk { IsErrOf result TermFault.Disk → Rose (J.faults self.old) (J.faults self.new) }
         ensures fails { IsErrOf result TermFault.Disk → J.has_failed self.new ≡ true }

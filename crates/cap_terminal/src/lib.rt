@@ -31,6 +31,3 @@ pub use faults::{
 pub use handled::{Handled, TermFault};
 pub use taken::{Taking, take_fault, take_message};
 pub use terminal::Terminal;
-
-#[cfg(test)]
-mod tests;

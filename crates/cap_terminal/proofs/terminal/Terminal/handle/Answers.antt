@@ -18,7 +18,8 @@ returns-in-Ok-clause-takes g c = λ received reads.
     let old = c.args.self.now in
     subst (λ (r : Received). Handles J.entries J.has_failed J.tells J.moment J.left_since J.may_leave J.counts old c.handle_message.new.self c.handle_message.result (takes (J.entries old) r))
     (c.reading_is_exact.ensures.one c.args.bytes.now (Read c.in-Ok.message) received c.in-Ok.ensures.read reads)
-    c.handle_message.ensures.takes
+    (let said = c.handle_message.ensures in
+    record { ok = said.ok; answer = said.answer; works = said.works; refused = said.refused; any_moment = said.any_moment; in_doubt = said.in_doubt; counted = said.counts })
 
 pub returns-in-Err-Fault-clause-takes : goal.returns-in-Err-Fault-clause-takes
 returns-in-Err-Fault-clause-takes g c = λ received reads.

@@ -1,0 +1,9 @@
+mod TiesLaws
+mod Behind
+mod Agreeing
+mod Composed
+mod Groups
+mod Named
+mod Closing
+mod Openings
+mod Tabled

@@ -167,9 +167,9 @@ module _ {E J : Type 0} {r : RecordGhosts E} {c : CloneGhosts E} {g : Ghosts J E
     leaves = reads.leaves;
   }
     where
-    never : (k : Option Counts) → IsQuiet k (IsErrOf {E = HostFault} (Ok w) Disk)
-    never None = tt
-    never (Some k) = no_fault w Disk
+      never : (k : Option Counts) → IsQuiet k (IsErrOf {E = HostFault} (Ok w) Disk)
+      never None = tt
+      never (Some k) = no_fault w Disk
 
   -- the same fault, where another value was to be given
   pub reads_fail : (old new : Ledger E J r c g) {S T : Type 0} (e : HostFault) → OnlyReads old new {T = S} (Err e) → OnlyReads old new {T = T} (Err e)
@@ -191,9 +191,9 @@ module _ {E J : Type 0} {r : RecordGhosts E} {c : CloneGhosts E} {g : Ghosts J E
     leaves = reads.leaves;
   }
     where
-    quietly : (k : Option Counts) → IsQuiet k (IsErrOf {T = S} {E = HostFault} (Err e) Disk) → IsQuiet k (IsErrOf {T = T} {E = HostFault} (Err e) Disk)
-    quietly None quiet = tt
-    quietly (Some k) quiet = λ is. quiet (same_fault {S = S} {T = T} e Disk is)
+      quietly : (k : Option Counts) → IsQuiet k (IsErrOf {T = S} {E = HostFault} (Err e) Disk) → IsQuiet k (IsErrOf {T = T} {E = HostFault} (Err e) Disk)
+      quietly None quiet = tt
+      quietly (Some k) quiet = λ is. quiet (same_fault {S = S} {T = T} e Disk is)
 
   -- want of memory after a call that only reads
   pub reads_lack : (old new : Ledger E J r c g) {S T : Type 0} (v : S) → OnlyReads old new (Ok v) → OnlyReads old new {T = T} (Err Memory)
@@ -215,12 +215,12 @@ module _ {E J : Type 0} {r : RecordGhosts E} {c : CloneGhosts E} {g : Ghosts J E
     leaves = reads.leaves;
   }
     where
-    answer : Result T HostFault
-    answer = Err Memory
+      answer : Result T HostFault
+      answer = Err Memory
 
-    never : (k : Option Counts) → IsQuiet k (IsErrOf answer Disk)
-    never None = tt
-    never (Some k) = λ is. lacks_no_other {T = T} Disk (λ same. cc) is
+      never : (k : Option Counts) → IsQuiet k (IsErrOf answer Disk)
+      never None = tt
+      never (Some k) = λ is. lacks_no_other {T = T} Disk (λ same. cc) is
 
   -- a call that only reads and fails adds nothing, whatever was to be added
   pub fails_adds : (old new : Ledger E J r c g) {T : Type 0} (added : List E) (e : HostFault) → OnlyReads old new {T = T} (Err e) → Adds old new added {T = T} (Err e)
@@ -237,20 +237,20 @@ module _ {E J : Type 0} {r : RecordGhosts E} {c : CloneGhosts E} {g : Ghosts J E
     };
   }
     where
-    answer : HostFault → Result T HostFault
-    answer f = Err f
+      answer : HostFault → Result T HostFault
+      answer f = Err f
 
-    uncounted : (f : HostFault) → (IsErrOf (answer f) Failed → ⊥) → (a b : Option Counts) → StaysCounted a b → IsQuiet a (IsErrOf (answer f) Disk)
-        → IsTrying (calls_for added) a b (IsOk (answer f)) (IsErrOf (answer f) Disk) (IsErrOf (answer f) Memory) ((old.failed ≡ false) × (added ≡ [] → ⊥))
-    uncounted f never None b same quiet = tt
-    uncounted Disk never (Some k) b same quiet = absurd (quiet refl)
-    uncounted Failed never (Some k) b same quiet = absurd (never refl)
-    uncounted Memory never (Some k) b same quiet = λ few. record {
-      added = λ ok. absurd (let none = ok in cc);
-      stopped = λ is. absurd (quiet is);
-      goes_on = λ would within. inr refl;
-      other = λ no' no''. same;
-    }
+      uncounted : (f : HostFault) → (IsErrOf (answer f) Failed → ⊥) → (a b : Option Counts) → StaysCounted a b → IsQuiet a (IsErrOf (answer f) Disk)
+          → IsTrying (calls_for added) a b (IsOk (answer f)) (IsErrOf (answer f) Disk) (IsErrOf (answer f) Memory) ((old.failed ≡ false) × (added ≡ [] → ⊥))
+      uncounted f never None b same quiet = tt
+      uncounted Disk never (Some k) b same quiet = absurd (quiet refl)
+      uncounted Failed never (Some k) b same quiet = absurd (never refl)
+      uncounted Memory never (Some k) b same quiet = λ few. record {
+        added = λ ok. absurd (let none = ok in cc);
+        stopped = λ is. absurd (quiet is);
+        goes_on = λ would within. inr refl;
+        other = λ no' no''. same;
+      }
 
   -- where a call answered Disk, nothing is added any more
   pub refused_adds : (old : Ledger E J r c g) {T : Type 0} (added : List E) → old.failed ≡ true → (added ≡ [] → ⊥)
@@ -276,14 +276,14 @@ module _ {E J : Type 0} {r : RecordGhosts E} {c : CloneGhosts E} {g : Ghosts J E
     };
   }
     where
-    answer : Result T HostFault
-    answer = Err Failed
+      answer : Result T HostFault
+      answer = Err Failed
 
-    untouched : (a : Option Counts) → IsTrying (calls_for added) a a (IsOk answer) (IsErrOf answer Disk) (IsErrOf answer Memory) ((old.failed ≡ false) × (added ≡ [] → ⊥))
-    untouched None = tt
-    untouched (Some k) = λ few. record {
-      added = λ ok. absurd (let none = ok in cc);
-      stopped = λ is. absurd (let other = is in cc);
-      goes_on = λ would within. absurd (let both = sym failed ∙ would.0 in cc);
-      other = λ no' no''. refl;
-    }
+      untouched : (a : Option Counts) → IsTrying (calls_for added) a a (IsOk answer) (IsErrOf answer Disk) (IsErrOf answer Memory) ((old.failed ≡ false) × (added ≡ [] → ⊥))
+      untouched None = tt
+      untouched (Some k) = λ few. record {
+        added = λ ok. absurd (let none = ok in cc);
+        stopped = λ is. absurd (let other = is in cc);
+        goes_on = λ would within. absurd (let both = sym failed ∙ would.0 in cc);
+        other = λ no' no''. refl;
+      }

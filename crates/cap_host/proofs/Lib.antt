@@ -7,3 +7,4 @@ mod Named
 mod Closing
 mod Openings
 mod Tabled
+mod Lines

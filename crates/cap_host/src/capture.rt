@@ -1,5 +1,5 @@
 // The captured sales of a log, as a capture file has them.
-ghost use Rattle.std.specs.Prelude.{◌≡◌, ◌<◌, ◌≤◌, ◌+◌, length, IfOk, slice_get, Some};
+ghost use Rattle.std.specs.Prelude.{◌≡◌, ◌<◌, ◌≤◌, ◌+◌, ◌↔◌, length, IfOk, slice_get, Some, None};
 ghost use Rattle.cap_base.specs.Captured.{captured};
 ghost use Rattle.cap_entries.specs.Log.{log, setup_of};
 ghost use Rattle.cap_host.specs.Capture.{line_of};
@@ -41,9 +41,7 @@ fn line(item: &Item) -> Option<Captured>
 }
 
 impl<J: Journal<HostEntry> + Drop> Host<J> {
-    /// Captured sale k of the log of the terminal at this place, in the log's order, counted from 0; None exactly past the last. Reads at most one
-    /// entry, makes no counted call of the disk, and never answers `Failed`.
-    pub fn capture_line(&mut self, terminal: u8, k: u64) -> Result<Option<Captured>, HostFault>
+    fn line_at(&mut self, terminal: u8, k: u64) -> Result<Option<Captured>, HostFault>
         requires { terminal < length (setup_of (entries_of self.old)).terminals }
         ensures line { IfOk result (λ line. line ≡ line_of (slice_get (captured (log (entries_of self.old) terminal)) k)) }
         ensures reads { Reads self.old self.new (fault_of result) }
@@ -58,5 +56,18 @@ impl<J: Journal<HostEntry> + Drop> Host<J> {
             }
             None => Ok(None),
         }
+    }
+
+    /// Captured sale k of the log of the terminal at this place, in the log's order, counted from 0; None exactly past the last. Reads at most one
+    /// entry, makes no counted call of the disk, and never answers `Failed`.
+    pub fn capture_line(&mut self, terminal: u8, k: u64) -> Result<Option<Captured>, HostFault>
+        requires { terminal < length (setup_of (entries_of self.old)).terminals }
+        ensures line { IfOk result (λ line. line ≡ line_of (slice_get (captured (log (entries_of self.old) terminal)) k)) }
+        ensures past { IfOk result (λ line. (line ≡ None) ↔ (length (captured (log (entries_of self.old) terminal)) ≤ k)) }
+        ensures reads { Reads self.old self.new (fault_of result) }
+        ensures entries { entries_of self.new ≡ entries_of self.old }
+        ensures fetched { fetched_of self.new ≤ fetched_of self.old + 1 }
+    {
+        self.line_at(terminal, k)
     }
 }

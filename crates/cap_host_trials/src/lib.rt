@@ -2,8 +2,14 @@
 #![tactic(auto)]
 
 #[cfg(test)]
+mod documents;
+#[cfg(test)]
+mod long_tests;
+#[cfg(test)]
 mod sent;
 mod start;
+#[cfg(test)]
+mod table_tests;
 #[cfg(test)]
 mod tests;
 

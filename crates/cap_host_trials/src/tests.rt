@@ -14,13 +14,13 @@ use cap_sale_msgs::SaleBody;
 use std::alloc::Global;
 use std::test::Fail;
 
-type Trial = Host<VecJournal<HostEntry>>;
+pub(crate) type Trial = Host<VecJournal<HostEntry>>;
 
 // Host ACQ1 with limit 500.00, which blocks 411111, polls each hour, and has the terminals T1 and T2.
 const SETUP: &[u8] =
     b"\x41\x04ACQ1\x00\x00\x00\x00\x00\x00\xc3\x50\x01411111\x00\x00\x00\x00\x00\x00\x00\x3c\x142023-11-14T22:13:20Z\x02\x02T1\x02T2";
 
-fn new_host(alloc: Global) -> Result<Trial, Fail> {
+pub(crate) fn new_host(alloc: Global) -> Result<Trial, Fail> {
     match started(alloc, SETUP)? {
         Some(journal) => match Host::open(alloc, journal) {
             Ok(host) => Ok(host),
@@ -65,7 +65,7 @@ fn sale(n: u64) -> Option<Item> {
     })
 }
 
-fn has_terminal(host: &Trial, terminal: u8) -> bool
+pub(crate) fn has_terminal(host: &Trial, terminal: u8) -> bool
     ensures { result ≡ true → terminal < length (setup_of (entries_of host.now)).terminals }
 {
     (terminal as usize) < host.setup().terminals().as_slice().len()

@@ -2,6 +2,8 @@
 #![tactic(auto)]
 
 #[cfg(test)]
+mod disk_tests;
+#[cfg(test)]
 mod documents;
 #[cfg(test)]
 mod long_tests;

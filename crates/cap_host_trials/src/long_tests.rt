@@ -223,7 +223,9 @@ fn entries_of(alloc: Global, host: Trial) -> Result<Vec<HostEntry>, Fail> {
     let mut journal = host.into_journal();
     let mut entries = Vec::new(alloc);
     for i in 0..journal.count() {
-        entries.push(journal.entry(i)?)?;
+        if i < journal.count() {
+            entries.push(journal.entry(i)?)?;
+        }
     }
     Ok(entries)
 }

@@ -66,7 +66,9 @@ fn read_out(alloc: Global, terminal: Trial) -> Result<Whole, Fail> {
     let mut journal = terminal.into_journal();
     let mut entries = Vec::new(alloc);
     for i in 0..journal.count() {
-        entries.push(journal.entry(i)?)?;
+        if i < journal.count() {
+            entries.push(journal.entry(i)?)?;
+        }
     }
     Ok(Whole {
         entries,

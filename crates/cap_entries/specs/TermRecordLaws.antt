@@ -198,85 +198,85 @@ part_field =
 
 -- ---- the choice
 
-abbrev R9 : ℕ → FieldAt TermEntry
-R9 first = choose first 9 part_at nothing_at
+abbrev read_from_part : ℕ → FieldAt TermEntry
+read_from_part first = choose first 9 part_at nothing_at
 
-abbrev R8 : ℕ → FieldAt TermEntry
-R8 first = choose first 8 (as_at Acked count_at) (R9 first)
+abbrev read_from_acked : ℕ → FieldAt TermEntry
+read_from_acked first = choose first 8 (as_at Acked count_at) (read_from_part first)
 
-abbrev R7 : ℕ → FieldAt TermEntry
-R7 first = choose first 7 (as_at Closed count_at) (R8 first)
+abbrev read_from_closed : ℕ → FieldAt TermEntry
+read_from_closed first = choose first 7 (as_at Closed count_at) (read_from_acked first)
 
-abbrev R6 : ℕ → FieldAt TermEntry
-R6 first = choose first 6 (as_at Cancelled count_at) (R7 first)
+abbrev read_from_cancelled : ℕ → FieldAt TermEntry
+read_from_cancelled first = choose first 6 (as_at Cancelled count_at) (read_from_closed first)
 
-abbrev R5 : ℕ → FieldAt TermEntry
-R5 first = choose first 5 (as_at Voided count_at) (R6 first)
+abbrev read_from_voided : ℕ → FieldAt TermEntry
+read_from_voided first = choose first 5 (as_at Voided count_at) (read_from_cancelled first)
 
-abbrev R4 : ℕ → FieldAt TermEntry
-R4 first = choose first 4 completed_at (R5 first)
+abbrev read_from_completed : ℕ → FieldAt TermEntry
+read_from_completed first = choose first 4 completed_at (read_from_voided first)
 
-abbrev R3 : ℕ → FieldAt TermEntry
-R3 first = choose first 3 (as_at Declined count_at) (R4 first)
+abbrev read_from_declined : ℕ → FieldAt TermEntry
+read_from_declined first = choose first 3 (as_at Declined count_at) (read_from_completed first)
 
-abbrev R2 : ℕ → FieldAt TermEntry
-R2 first = choose first 2 begin_at (R3 first)
+abbrev read_from_begin : ℕ → FieldAt TermEntry
+read_from_begin first = choose first 2 begin_at (read_from_declined first)
 
-abbrev M9 : ℕ → Bool
-M9 first = (first == 9) || false
+abbrev tag_from_part : ℕ → Bool
+tag_from_part first = (first == 9) || false
 
-abbrev M8 : ℕ → Bool
-M8 first = (first == 8) || M9 first
+abbrev tag_from_acked : ℕ → Bool
+tag_from_acked first = (first == 8) || tag_from_part first
 
-abbrev M7 : ℕ → Bool
-M7 first = (first == 7) || M8 first
+abbrev tag_from_closed : ℕ → Bool
+tag_from_closed first = (first == 7) || tag_from_acked first
 
-abbrev M6 : ℕ → Bool
-M6 first = (first == 6) || M7 first
+abbrev tag_from_cancelled : ℕ → Bool
+tag_from_cancelled first = (first == 6) || tag_from_closed first
 
-abbrev M5 : ℕ → Bool
-M5 first = (first == 5) || M6 first
+abbrev tag_from_voided : ℕ → Bool
+tag_from_voided first = (first == 5) || tag_from_cancelled first
 
-abbrev M4 : ℕ → Bool
-M4 first = (first == 4) || M5 first
+abbrev tag_from_completed : ℕ → Bool
+tag_from_completed first = (first == 4) || tag_from_voided first
 
-abbrev M3 : ℕ → Bool
-M3 first = (first == 3) || M4 first
+abbrev tag_from_declined : ℕ → Bool
+tag_from_declined first = (first == 3) || tag_from_completed first
 
-abbrev M2 : ℕ → Bool
-M2 first = (first == 2) || M3 first
+abbrev tag_from_begin : ℕ → Bool
+tag_from_begin first = (first == 2) || tag_from_declined first
 
-abbrev M1 : ℕ → Bool
-M1 first = (first == 1) || M2 first
+abbrev tag_from_setup : ℕ → Bool
+tag_from_setup first = (first == 1) || tag_from_begin first
 
-behind9 : IsBehind R9 M9 term_tag term_fits term_body
+behind9 : IsBehind read_from_part tag_from_part term_tag term_fits term_body
 behind9 = choose_behind term_tag term_fits term_body 9 part_at part_field (λ (first : ℕ). nothing_at) (λ (first : ℕ). false) (nothing_behind term_tag term_fits term_body)
 
-behind8 : IsBehind R8 M8 term_tag term_fits term_body
-behind8 = choose_behind term_tag term_fits term_body 8 (as_at Acked count_at) acked_field R9 M9 behind9
+behind8 : IsBehind read_from_acked tag_from_acked term_tag term_fits term_body
+behind8 = choose_behind term_tag term_fits term_body 8 (as_at Acked count_at) acked_field read_from_part tag_from_part behind9
 
-behind7 : IsBehind R7 M7 term_tag term_fits term_body
-behind7 = choose_behind term_tag term_fits term_body 7 (as_at Closed count_at) closed_field R8 M8 behind8
+behind7 : IsBehind read_from_closed tag_from_closed term_tag term_fits term_body
+behind7 = choose_behind term_tag term_fits term_body 7 (as_at Closed count_at) closed_field read_from_acked tag_from_acked behind8
 
-behind6 : IsBehind R6 M6 term_tag term_fits term_body
-behind6 = choose_behind term_tag term_fits term_body 6 (as_at Cancelled count_at) cancelled_field R7 M7 behind7
+behind6 : IsBehind read_from_cancelled tag_from_cancelled term_tag term_fits term_body
+behind6 = choose_behind term_tag term_fits term_body 6 (as_at Cancelled count_at) cancelled_field read_from_closed tag_from_closed behind7
 
-behind5 : IsBehind R5 M5 term_tag term_fits term_body
-behind5 = choose_behind term_tag term_fits term_body 5 (as_at Voided count_at) voided_field R6 M6 behind6
+behind5 : IsBehind read_from_voided tag_from_voided term_tag term_fits term_body
+behind5 = choose_behind term_tag term_fits term_body 5 (as_at Voided count_at) voided_field read_from_cancelled tag_from_cancelled behind6
 
-behind4 : IsBehind R4 M4 term_tag term_fits term_body
-behind4 = choose_behind term_tag term_fits term_body 4 completed_at completed_field R5 M5 behind5
+behind4 : IsBehind read_from_completed tag_from_completed term_tag term_fits term_body
+behind4 = choose_behind term_tag term_fits term_body 4 completed_at completed_field read_from_voided tag_from_voided behind5
 
-behind3 : IsBehind R3 M3 term_tag term_fits term_body
-behind3 = choose_behind term_tag term_fits term_body 3 (as_at Declined count_at) declined_field R4 M4 behind4
+behind3 : IsBehind read_from_declined tag_from_declined term_tag term_fits term_body
+behind3 = choose_behind term_tag term_fits term_body 3 (as_at Declined count_at) declined_field read_from_completed tag_from_completed behind4
 
-behind2 : IsBehind R2 M2 term_tag term_fits term_body
-behind2 = choose_behind term_tag term_fits term_body 2 begin_at begin_field R3 M3 behind3
+behind2 : IsBehind read_from_begin tag_from_begin term_tag term_fits term_body
+behind2 = choose_behind term_tag term_fits term_body 2 begin_at begin_field read_from_declined tag_from_declined behind3
 
-behind1 : IsBehind term_behind M1 term_tag term_fits term_body
-behind1 = choose_behind term_tag term_fits term_body 1 setup_at setup_field R2 M2 behind2
+behind1 : IsBehind term_behind tag_from_setup term_tag term_fits term_body
+behind1 = choose_behind term_tag term_fits term_body 1 setup_at setup_field read_from_begin tag_from_begin behind2
 
-known : (entry : TermEntry) → (M1 (term_tag entry) ≡ true) × (is_byte (term_tag entry) ≡ true)
+known : (entry : TermEntry) → (tag_from_setup (term_tag entry) ≡ true) × (is_byte (term_tag entry) ≡ true)
 known (Setup settings) = (refl, refl)
 known (Begin n amount account) = (refl, refl)
 known (Declined n) = (refl, refl)
@@ -288,7 +288,7 @@ known (Acked m) = (refl, refl)
 known (Part part) = (refl, refl)
 
 term_field : IsField term_at term_fits term_record
-term_field = tagged_field term_tag term_fits term_body term_behind M1 behind1 known
+term_field = tagged_field term_tag term_fits term_body term_behind tag_from_setup behind1 known
 
 pub term_reads_back : (value : TermEntry) (rest : List ℕ) → term_fits value ≡ true → term_reading (term_record value ++ rest) ≡ Some (value, length (term_record value))
 unfolding term_reading

@@ -43,7 +43,9 @@ use Rattle.cap_schedule.specs.declared.schedule.Schedule.{Schedule}
 use Rattle.cap_world.specs.World.{TerminalState, World, TerminalDoes, HostDoes, Step, Run, Happening}
 use Rattle.cap_plays.specs.Turns.{Scene, world_of, counted_at, nth, Work, worked, Turn, next_sale, next_period, begins, offline_turn, sends_head, if_cancellable, Decided, on_response, decided, decides_on, hears_it, hears, turn_of, HostWork, HostTurn, replies_with, answers_it, answers_terminal, host_turn_of}
 use Rattle.cap_plays.specs.Plays.{Made, made, all_made, host_made, opens, host_opens, Plan, fails_first, terminal_plan, plan, opening_plan, Fate, fate, fate_of, fate_whole, fate_in, fate_after, fate_cut_after, off_at, terminal_off, acting, is_on, is_possible, terminal_is_on, with_terminal, closing_fate, Doubt, Doubts, doubt_at, with_doubt, moment_of, Played, Reopens, Plays, ends_of, first_scene, first_doubts}
-use Rattle.cap_plays.specs.Laws.{IsOrderInRange, IsInRange, InRange, IsNoiseOfOrder, IsNoiseOfHostOrder, IsNoise, first_world, IsReached, EveryPlayIsARun}
+use Rattle.cap_schedule.specs.Nobodys.{IsNoiseOfOrder, IsNoiseOfHostOrder, IsNoise}
+use Rattle.cap_schedule.specs.Ranges.{OrderInRange, ActionInRange}
+use Rattle.cap_plays.specs.Laws.{InRange, wanted_in_range, first_world, IsReached, EveryPlayIsARun}
 use Rattle.cap_plays.specs.SetUps.{IsSetUp, reached_set_up, noise_is_not_ours, noise_is_foreign}
 
 -- these steps of a terminal are made one after the other
@@ -156,7 +158,7 @@ abbrev NoiseIsNotOurs : (reads : List ℕ → Received) → TerminalState → Or
 NoiseIsNotOurs reads s (T.Hear bytes) = IsNotOurs s.settled (reads bytes)
 NoiseIsNotOurs reads s _ = ⊤
 
-turn_works : (reads : List ℕ → Received) (s : TerminalState) (counted : List ℕ) (moment : ℕ) (created : DateParts) (order : Order) → IsMoment moment created → IsOrderInRange order → NoiseIsNotOurs reads s order
+turn_works : (reads : List ℕ → Received) (s : TerminalState) (counted : List ℕ) (moment : ℕ) (created : DateParts) (order : Order) → IsMoment moment created → OrderInRange order → NoiseIsNotOurs reads s order
     → WorksOf s (turn_of reads s counted moment created order)
 turn_works reads s counted moment created (T.Begin amount account) at range noise =
     cond_both (nat_lt (count_by is_any_begin s.settled) (max_of s.settled)) _ _ (WorksOf s) (λ lt. (((ltb-true _ _ lt, refl), refl), tt)) (λ _. tt)
@@ -176,7 +178,7 @@ turn_works reads s counted moment created (T.Ask n) at range noise =
     cond_both (is_pending s.settled n) _ _ (WorksOf s) (λ pending. ((_, (pending, (created, at, refl)), refl, refl), tt)) (λ _. tt)
 turn_works reads s counted moment created (T.AskCancel n) at range noise = if_works s n _ (λ may. ((_, (may, (created, at, refl)), refl, refl), tt))
 turn_works reads s counted moment created T.Diagnose at range noise = ((_, (created, at, refl), refl, refl), tt)
-turn_works reads s counted moment created (T.Status wanted) at range noise = ((_, (range, (created, at, refl)), refl, refl), tt)
+turn_works reads s counted moment created (T.Status wanted) at range noise = ((_, (wanted_in_range wanted range, (created, at, refl)), refl, refl), tt)
 turn_works reads s counted moment created (T.Down j) at range noise = hears_works false s j (nth counted j)
 turn_works reads s counted moment created (T.Walkout j) at range noise = hears_works true s j (nth counted j)
 turn_works reads s counted moment created (T.Hear bytes) at range noise = ((noise, refl, refl), tt)
@@ -256,7 +258,7 @@ noise_at_host reads s w (W.Listen bytes) set_up noise = noise_is_foreign s w (re
 noise_at_host reads s w order set_up noise = tt
 
 plan_chained : (reads : List ℕ → Received) (s : Schedule) (w : Scene) (old : Doubt) (kept : ℕ) (prefix : Option Prefix) (number : ℕ) (created : DateParts) (action : Action)
-    → InRange s → IsSetUp s (world_of w) → IsInRange action → IsNoise reads s action → IsMoment (moment_of number) created → is_possible w action ≡ true
+    → InRange s → IsSetUp s (world_of w) → ActionInRange action → IsNoise reads s action → IsMoment (moment_of number) created → is_possible w action ≡ true
     → PlanChained w (plan reads w old kept prefix number created action)
 plan_chained reads s w old kept prefix number created (AtTerminal place order) all set_up range noise at on =
     terminal_chained w (slice_get w.terminals place) _ (λ t there.
@@ -286,7 +288,7 @@ fate_of_runs (Some (Fail call fill)) w end plan c = in_runs w plan.steps plan.ou
 fate_of_runs (Some CutAfter) w end plan c = cut_after_runs w end plan.steps c
 
 pub fate_runs : (reads : List ℕ → Received) (s : Schedule) (w : Scene) (old : Doubt) (kept : ℕ) (created : DateParts) (line : Line)
-    → InRange s → IsReached s w → IsInRange line.action → IsNoise reads s line.action → IsMoment (moment_of line.number) created → RunsTo w (fate reads w old kept created line)
+    → InRange s → IsReached s w → ActionInRange line.action → IsNoise reads s line.action → IsMoment (moment_of line.number) created → RunsTo w (fate reads w old kept created line)
 fate_runs reads s w old kept created line all (happenings, run) range noise at =
     let set_up : IsSetUp s (world_of w) = reached_set_up s (world_of w) happenings run in
     cond_both (is_possible w line.action) _ _ (RunsTo w)
@@ -319,7 +321,7 @@ reopens_run (end ∷ ends) w doubts played (kept, more, keeps, rest, is) =
     subst (PlayRuns w) (sym is) (runs_append (world_of w) (world_of f.scene) (world_of more.last) f.happenings more.happenings (closing_runs w (doubt_at doubts end) kept end) (reopens_run ends f.scene doubts more rest))
 
 plays_run : (reads : List ℕ → Received) (s : Schedule) (lines : List Line) (w : Scene) (doubts : Doubts) (played : Played) → InRange s → IsReached s w
-    → AllByRecursion (λ (line : Line). IsInRange line.action) lines → AllByRecursion (λ (line : Line). IsNoise reads s line.action) lines → Plays reads lines w doubts played → PlayRuns w played
+    → AllByRecursion (λ (line : Line). ActionInRange line.action) lines → AllByRecursion (λ (line : Line). IsNoise reads s line.action) lines → Plays reads lines w doubts played → PlayRuns w played
 plays_run reads s [] w doubts played all reached range noise does = reopens_run (ends_of w) w doubts played does
 plays_run reads s (line ∷ lines) w doubts played all reached (range, ranges) (noise, noises) (created, kept, more, at, keeps, rest, is) =
     let old = doubt_at doubts (acting line.action) in

@@ -17,7 +17,10 @@ use Rattle.cap_world.specs.World.{TerminalState}
 use Rattle.cap_plays.specs.Turns.{Scene}
 use Rattle.cap_plays.specs.Plays.{Doubts, doubt_at, with_doubt, MayKeep, acting, moment_of, fate, closing_fate, nothing_played, play_behind, silently_behind, Reopens, terminals_from, first_scene, first_doubts}
 use Rattle.cap_plays.specs.Report.{ends_text}
-use Rattle.cap_plays.specs.Laws.{AllOn, IsReader, InRange, IsInRange, IsNoise, NoiseIsNobodys, EveryPlayAgrees, EveryPlayEndsOn}
+use Rattle.cap_schedule.specs.Reader.{IsReader}
+use Rattle.cap_schedule.specs.Nobodys.{IsNoise, NoiseIsNobodys}
+use Rattle.cap_schedule.specs.Ranges.{ActionInRange}
+use Rattle.cap_plays.specs.Laws.{AllOn, InRange, EveryPlayAgrees, EveryPlayEndsOn}
 use Rattle.cap_plays.specs.Session.{ActsSo, ReopensSo, Continues, Closes, ActedAll, ReopenedAll, ReopenedTo, ReportsSo, IsPlayed}
 use Rattle.cap_plays.proofs.Chains.{fate_runs, closing_runs, reached_by, does_run}
 
@@ -65,7 +68,7 @@ pub acted_more : (old new : Scene → Doubts → Type 0) (s : Schedule) (i : ℕ
     → ActedAll new s (drop (i + 1) s.lines) before (text ++ outcome_line line.number outcome)
 acted_more old new s i line before text outcome range lt is acted acts = λ reads is_reader noise.
     let so_far = acted reads is_reader noise in
-    let in_range : IsInRange line.action = line_at (λ (l : Line). IsInRange l.action) s.lines i line lt is range.lines in
+    let in_range : ActionInRange line.action = line_at (λ (l : Line). ActionInRange l.action) s.lines i line lt is range.lines in
     let is_noise : IsNoise reads s line.action = line_at (λ (l : Line). IsNoise reads s l.action) s.lines i line lt is noise in
     let (created, kept, at, keeps, fated) = acts reads s so_far.scene so_far.doubts is_reader range so_far.reached is_noise so_far.stands in
     let old_doubt = doubt_at so_far.doubts (acting line.action) in
@@ -133,22 +136,23 @@ reopened_last first old place count has past so_far = λ s v doubts range reache
     (all.0, all.1, all.3, subst (λ u. old u doubts) (sym all.2) stands_w)
 
 -- the whole text
-pub played_all : (corresponds after : Scene → Doubts → Type 0) (s : Schedule) (text whole : List ℕ) → InRange s → ActedAll corresponds s [] [] text → ReopenedAll corresponds after
-    → ReportsSo after s text whole → EveryPlayAgrees → EveryPlayEndsOn
-    → (reads : List ℕ → Received) → IsReader reads → NoiseIsNobodys reads s → IsPlayed reads after s whole
-played_all corresponds after s text whole range acted reopened reported agrees ends_on = λ reads is_reader noise.
+pub played_all : (corresponds after reported : Scene → Doubts → Type 0) (s : Schedule) (text whole : List ℕ) → InRange s → ActedAll corresponds s [] [] text → ReopenedAll corresponds after
+    → ReportsSo after reported s text whole → EveryPlayAgrees → EveryPlayEndsOn
+    → (reads : List ℕ → Received) → IsReader reads → NoiseIsNobodys reads s → IsPlayed reads reported s whole
+played_all corresponds after reported s text whole range acted reopened reports agrees ends_on = λ reads is_reader noise.
     let so_far = acted reads is_reader noise in
     let (rest, closes, none, after_stands) = reopened s so_far.scene so_far.doubts range so_far.reached so_far.stands in
     let (played, does, last, lines) = so_far.goes_on rest closes in
     let at_last : after played.last so_far.doubts = subst (λ u. after u so_far.doubts) (sym last) after_stands in
     let all_on : AllOn played.last = ends_on reads s played does in
     let e : outcome_lines s.lines played.outcomes ≡ text = lines ∙ append-nil text in
+    let at_end = reports played.last so_far.doubts (played.happenings, does_run reads s played range noise does) all_on at_last in
     record {
       played = played;
       doubts = so_far.doubts;
       does = does;
       agrees = agrees reads s played range noise does;
       all_on = all_on;
-      stands = at_last;
-      reports = reported played.last so_far.doubts (played.happenings, does_run reads s played range noise does) all_on at_last ∙ ap (λ l. l ++ ends_text played.last 0 s.terminals played.last.terminals) (sym e);
+      stands = at_end.0;
+      reports = at_end.1 ∙ ap (λ l. l ++ ends_text played.last 0 s.terminals played.last.terminals) (sym e);
     }

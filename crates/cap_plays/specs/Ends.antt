@@ -198,6 +198,16 @@ module _ {T H : Type 0} (of_terminal : T → TerminalState → List ℕ → Doub
       (counted_as_they_are w.counted place)
       (place_changes host terminals w doubts place t s new (counted_at w.counted place) doubt stands there is)
 
+  -- its terminal may be another one that stands to the same state
+  pub terminal_replaced : (host : H) (terminals : List T) (w : Scene) (doubts : Doubts) (place : ℕ) (t : T) (s : TerminalState)
+      → Stands host terminals w doubts → slice_get w.terminals place ≡ Some s → of_terminal t s (counted_at w.counted place) (doubt_at doubts (Terminal place))
+      → Stands host (slice_set terminals place t) w doubts
+  terminal_replaced host terminals w doubts place t s stands there is =
+      let changed = terminal_changes host terminals w doubts place t s s (doubt_at doubts (Terminal place)) stands there is in
+      subst (λ v. Stands host (slice_set terminals place t) v doubts) (sym (with_there w place s there))
+      (subst (λ d. Stands host (slice_set terminals place t) (with_terminal w place s) d)
+      (ap (λ (l : List Doubt). let d : Doubts = record { host = doubts.host; terminals = l } in d) (doubts_as_they_are doubts.terminals place)) changed)
+
   -- a line at a terminal that is on was done, if its end now stands to its fate
   pub terminal_acted : (reads : List ℕ → Received) (host : H) (terminals : List T) (w : Scene) (doubts : Doubts) (number place : ℕ) (created : DateParts) (prefix : Option Prefix) (order : Order) (t : T) (s : TerminalState) (outcome : Outcome)
       → Stands host terminals w doubts → slice_get w.terminals place ≡ Some s → s.on ≡ true → IsMoment (moment_of number) created

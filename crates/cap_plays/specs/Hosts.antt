@@ -52,6 +52,12 @@ noted_set (places ∷ counted) [] place s messages there = absurd (none-some s t
 noted_set (places ∷ counted) (t ∷ terminals) zero s messages there = ap (λ (u : TerminalState). (places ++ places_from (length u.answers) messages) ∷ counted) (same_Some _ _ there)
 noted_set (places ∷ counted) (t ∷ terminals) (suc place) s messages there = ap (λ l. places ∷ l) (noted_set counted terminals place s messages there)
 
+noted_none : (counted : List (List ℕ)) (terminals : List TerminalState) (place : ℕ) → noted counted terminals place [] ≡ counted
+noted_none [] terminals place = refl
+noted_none (places ∷ counted) [] place = refl
+noted_none (places ∷ counted) (t ∷ terminals) zero = ap (λ l. l ∷ counted) (append-nil places)
+noted_none (places ∷ counted) (t ∷ terminals) (suc place) = ap (λ l. places ∷ l) (noted_none counted terminals place)
+
 no_less : (n : ℕ) → n < 0 → ⊥
 no_less n lt = omega (arith, lt)
 
@@ -129,6 +135,12 @@ module _ {T H : Type 0} (of_terminal : T → TerminalState → List ℕ → Doub
   -- nothing arrives
   pub nothing_arrives : (host : H) (terminals : List T) (w : Scene) (doubts : Doubts) → Stands host terminals w doubts → Stands host terminals (arrived w w.host 0 [] false) doubts
   nothing_arrives host terminals w doubts stands = subst (λ v. Stands host terminals v doubts) (quiet w w.host) stands
+
+  -- nor does it count
+  pub no_answer_arrives : (host : H) (terminals : List T) (w : Scene) (doubts : Doubts) (receiver : ℕ) → Stands host terminals w doubts → Stands host terminals (arrived w w.host receiver [] true) doubts
+  no_answer_arrives host terminals w doubts receiver stands =
+      subst (λ (l : List (List ℕ)). Stands host terminals (record { host = w.host; terminals = delivered w.terminals receiver []; counted = l }) doubts) (sym (noted_none w.counted w.terminals receiver))
+      (subst (λ (l : List TerminalState). Stands host terminals (record { host = w.host; terminals = l; counted = w.counted }) doubts) (sym (delivered_none w.terminals receiver)) stands)
 
   -- messages arrive at a terminal, and count or not
   arrives : (host : H) (terminals : List T) (w : Scene) (doubts : Doubts) (receiver : ℕ) (t : T) (s : TerminalState) (replies : List Message) (counts : Bool)

@@ -1,74 +1,37 @@
 -- The laws of schedules: what they name is a run, in which the ends agree; without faults it is one run; and at its end every end is on.
 use Rattle.std.specs.Prelude.{◌≡◌, ◌⊎◌, ⊤, ℕ, ◌≤◌, true, List, Option, Some, slice_get}
 use Rattle.std.specs.List.{AllByRecursion}
+use Rattle.std.proofs.Common.{refl, sym, subst, inl, inr}
+use Rattle.cap_base.specs.declared.codes.DataSet.{DataSet}
+use Rattle.cap_base.specs.declared.codes.DataSet.TheVariants.{Aqpr, Mgtp}
+use Rattle.cap_terminal.specs.Sends.{may_be_wanted}
 use Rattle.cap_leaf.specs.Date.{DateParts}
-use Rattle.cap_msgs.specs.Received.{Received, Read, Unread}
-use Rattle.cap_msgs.specs.Reads.{Reads}
+use Rattle.cap_msgs.specs.Received.{Received}
 use Rattle.cap_entries.specs.declared.terminal.TermEntry.{TermEntry}
 use Rattle.cap_entries.specs.declared.host.HostEntry.{HostEntry}
 use Rattle.cap_entries.specs.Log.{log}
 use Rattle.cap_plain.specs.Agreed.{Agreed}
-use Rattle.cap_terminal.specs.Sends.{may_be_wanted}
 use Rattle.cap_schedule.specs.declared.schedule.Prefix.{Prefix}
 use Rattle.cap_schedule.specs.declared.schedule.Prefix.TheVariants.{Cut, Fail}
-use Rattle.cap_schedule.specs.declared.schedule.Order.{Order}
-use Rattle.cap_schedule.specs.declared.schedule.Order.TheVariants.{Batch, Status, Hear}
-use Rattle.cap_schedule.specs.declared.schedule.HostOrder.{HostOrder}
-use Rattle.cap_schedule.specs.declared.schedule.HostOrder.TheVariants.{Listen}
-use Rattle.cap_schedule.specs.declared.schedule.Action.{Action}
-use Rattle.cap_schedule.specs.declared.schedule.Action.TheVariants.{AtTerminal, AtHost}
 use Rattle.cap_schedule.specs.declared.schedule.Line.{Line}
 use Rattle.cap_schedule.specs.declared.schedule.Schedule.{Schedule}
-use Rattle.cap_world.specs.World.{TerminalState, World, Happening, SetUpsMatch, first, Run, May}
+use Rattle.cap_schedule.specs.Matching.{Matching}
+use Rattle.cap_schedule.specs.Ranges as Ranges
+use Rattle.cap_schedule.specs.Nobodys.{NoiseIsNobodys}
+use Rattle.cap_world.specs.World.{TerminalState, World, Happening, first, Run, May}
 use Rattle.cap_plays.specs.Turns.{Scene, world_of}
 use Rattle.cap_plays.specs.Report.{report}
 use Rattle.cap_plays.specs.Plays.{Played, Does, least_play, AreDates}
 
--- each list of bytes reads as this
-abbrev pub IsReader : (List ℕ → Received) → Type 0
-IsReader reads = (bytes : List ℕ) → Reads bytes (reads bytes)
-
--- the host of a schedule, or one of its terminals
-abbrev pub IsParty : Schedule → List ℕ → Type 0
-IsParty s name = (name ≡ s.host.host) ⊎ ((place : ℕ) × (slice_get s.host.terminals place ≡ Some name))
-
--- it is no message whose sender and receiver both are parties of the schedule
-abbrev pub IsNobodys : Schedule → Received → Type 0
-IsNobodys s (Unread fault) = ⊤
-IsNobodys s (Read message) = IsParty s message.header.from → IsParty s message.header.to → ⊥
-
--- the numbers of a line are in range
-abbrev pub IsOrderInRange : Order → Type 0
-IsOrderInRange (Batch limit) = (1 ≤ limit) × (limit ≤ 100)
-IsOrderInRange (Status wanted) = may_be_wanted wanted ≡ true
-IsOrderInRange _ = ⊤
-
-abbrev pub IsInRange : Action → Type 0
-IsInRange (AtTerminal place order) = IsOrderInRange order
-IsInRange _ = ⊤
+-- what a status report of a schedule asks for, a terminal may ask for
+pub wanted_in_range : (wanted : DataSet) → (wanted ≡ Aqpr) ⊎ (wanted ≡ Mgtp) → may_be_wanted wanted ≡ true
+wanted_in_range wanted (inl is) = subst (λ d. may_be_wanted d ≡ true) (sym is) refl
+wanted_in_range wanted (inr is) = subst (λ d. may_be_wanted d ≡ true) (sym is) refl
 
 -- the set-ups of a schedule name each other and keep their rules, and its lines are in range
 pub record InRange (s : Schedule) : Type 0 where
-  pub set_ups : SetUpsMatch s.host s.terminals
-  pub lines : AllByRecursion (λ (line : Line). IsInRange line.action) s.lines
-
--- the noise of a line is nobody's
-abbrev pub IsNoiseOfOrder : (reads : List ℕ → Received) → Schedule → Order → Type 0
-IsNoiseOfOrder reads s (Hear bytes) = IsNobodys s (reads bytes)
-IsNoiseOfOrder reads s _ = ⊤
-
-abbrev pub IsNoiseOfHostOrder : (reads : List ℕ → Received) → Schedule → HostOrder → Type 0
-IsNoiseOfHostOrder reads s (Listen bytes) = IsNobodys s (reads bytes)
-IsNoiseOfHostOrder reads s _ = ⊤
-
-abbrev pub IsNoise : (reads : List ℕ → Received) → Schedule → Action → Type 0
-IsNoise reads s (AtTerminal place order) = IsNoiseOfOrder reads s order
-IsNoise reads s (AtHost order) = IsNoiseOfHostOrder reads s order
-IsNoise reads s _ = ⊤
-
--- the same of each line
-abbrev pub NoiseIsNobodys : (reads : List ℕ → Received) → Schedule → Type 0
-NoiseIsNobodys reads s = AllByRecursion (λ (line : Line). IsNoise reads s line.action) s.lines
+  pub set_ups : Matching s
+  pub lines : Ranges.InRange s
 
 abbrev pub first_world : Schedule → World
 first_world s = first s.host s.terminals

@@ -10,6 +10,8 @@ pub mod Ends
 pub mod Openings
 pub mod Answers
 pub mod Hosts
+pub mod Texts
+pub mod Armed
 pub mod Calls
 pub mod Lines
 pub mod Worked

@@ -11,7 +11,9 @@ use Rattle.cap_schedule.specs.Outcomes.{outcome_lines}
 use Rattle.cap_plays.specs.Turns.{Scene, world_of}
 use Rattle.cap_plays.specs.Plays.{Doubts, doubt_at, with_doubt, MayKeep, acting, moment_of, Fate, fate, closing_fate, Played, Does, Plays, Reopens, ends_of, terminals_from}
 use Rattle.cap_plays.specs.Report.{ends_text, report}
-use Rattle.cap_plays.specs.Laws.{EndsAgree, AllOn, IsReader, InRange, IsReached, IsNoise, NoiseIsNobodys}
+use Rattle.cap_schedule.specs.Reader.{IsReader}
+use Rattle.cap_schedule.specs.Nobodys.{IsNoise, NoiseIsNobodys}
+use Rattle.cap_plays.specs.Laws.{EndsAgree, AllOn, InRange, IsReached}
 
 -- these are the scene and the doubts after a fate, and its outcome was said
 abbrev pub IsFate : (corresponds : Scene → Doubts → Type 0) → Doubts → End → Outcome → Fate → Type 0
@@ -55,9 +57,10 @@ ActsSo old new line outcome =
 abbrev pub ReopensSo : (old new : Scene → Doubts → Type 0) → End → Type 0
 ReopensSo old new end = (s : Schedule) (w : Scene) (doubts : Doubts) → InRange s → IsReached s w → old w doubts → Reopened new w doubts end
 
--- and of the report: whatever scene of the schedule it stands to, in which every end is on, this is the report on its terminals
-abbrev pub ReportsSo : (corresponds : Scene → Doubts → Type 0) → Schedule → (before after : List ℕ) → Type 0
-ReportsSo corresponds s before after = (w : Scene) (doubts : Doubts) → IsReached s w → AllOn w → corresponds w doubts → after ≡ before ++ ends_text w 0 s.terminals w.terminals
+-- and of the report: whatever scene of the schedule it stood to, in which every end is on, this is the report on its terminals, and it stands to that scene
+abbrev pub ReportsSo : (old new : Scene → Doubts → Type 0) → Schedule → (before after : List ℕ) → Type 0
+ReportsSo old new s before after =
+    (w : Scene) (doubts : Doubts) → IsReached s w → AllOn w → old w doubts → new w doubts × (after ≡ before ++ ends_text w 0 s.terminals w.terminals)
 
 -- all lines before these were done, and led to a scene of the schedule from which some play goes on as from here
 pub record ActedTo (reads : List ℕ → Received) (corresponds : Scene → Doubts → Type 0) (s : Schedule) (lines : List Line) (before text : List ℕ) : Type 0 where

@@ -2,17 +2,19 @@
 use Rattle.std.specs.Prelude.{ℕ, ◌+◌, ◌-◌, Bool, true, false, not, nat_le, nat_lt, ◌==◌, if◌then◌else◌, List, [], ◌∷◌, ◌++◌, length, take, Option, Some, None, Result, Ok, Err, slice_get, count_by}
 use Rattle.std.specs.List.{list_any}
 use Rattle.cap_base.specs.declared.item.Item.{Item}
+use Rattle.cap_base.specs.declared.codes.Reason.{Reason}
 use Rattle.cap_base.specs.declared.codes.Response.{Response}
 use Rattle.cap_base.specs.declared.codes.Response.TheVariants.{Appr}
 use Rattle.cap_leaf.specs.Date.{DateParts}
 use Rattle.cap_sale_msgs.specs.declared.body.SaleBody.TheVariants.{AuthRequest, CancelRequest}
-use Rattle.cap_batch_msgs.specs.declared.body.BatchBody.TheVariants.{Batch, Diagnostic}
-use Rattle.cap_mgmt_msgs.specs.declared.body.MgmtBody.TheVariants.{Status}
+use Rattle.cap_batch_msgs.specs.declared.body.BatchBody.TheVariants.{Batch, Diagnostic, Rejection}
+use Rattle.cap_mgmt_msgs.specs.declared.body.MgmtBody.TheVariants.{Status, ManagementRejection}
 use Rattle.cap_msgs.specs.declared.message.Body.{Body}
 use Rattle.cap_msgs.specs.declared.message.Body.TheVariants.{Sale as Of_sale, Batch as Of_batch, Management as Of_management}
 use Rattle.cap_msgs.specs.declared.message.Message.{Message}
 use Rattle.cap_msgs.specs.Received.{Received, Read}
 use Rattle.cap_msgs.specs.Report.{advice_of}
+use Rattle.cap_msgs.specs.Trees.{body_kind}
 use Rattle.cap_entries.specs.declared.terminal.TermEntry.{TermEntry}
 use Rattle.cap_entries.specs.declared.terminal.TermEntry.TheVariants.{Begin, Completed, Voided, Declined, Cancelled, Closed}
 use Rattle.cap_entries.specs.declared.host.HostEntry.{HostEntry}
@@ -39,7 +41,6 @@ use Rattle.cap_schedule.specs.declared.schedule.Order.{Order}
 use Rattle.cap_schedule.specs.declared.schedule.Order.TheVariants as T
 use Rattle.cap_schedule.specs.declared.schedule.HostOrder.{HostOrder}
 use Rattle.cap_schedule.specs.declared.schedule.HostOrder.TheVariants as W
-use Rattle.cap_world.specs.Kinds.{kind_of, reason_of}
 use Rattle.cap_world.specs.World.{TerminalState, HostState, World, TerminalAction, Begins, Offline, Gives_up, Cancels, Closes, Sends_message, Takes_answer, Hears_foreign, HostAction, Answers, Answers_foreign, Publishes}
 
 -- A world in the midst of a schedule. In the world each reply of the host stands in the answers of the terminal that it names. A schedule drops the
@@ -245,9 +246,15 @@ pub record HostTurn : Type 0 where
 abbrev pub host_says : Outcome → HostTurn
 host_says outcome = record { work = None; outcome = outcome }
 
+-- why a message rejects, where it does
+abbrev pub reason_of : Body → Option Reason
+reason_of (Of_batch (Rejection refused)) = Some refused.reason
+reason_of (Of_management (ManagementRejection refused)) = Some refused.reason
+reason_of _ = None
+
 abbrev pub answered_as : Option ℕ → Option Body → Outcome
 answered_as place None = O.Silent
-answered_as place (Some body) = O.Answered place (kind_of body) (reason_of body)
+answered_as place (Some body) = O.Answered place (body_kind body) (reason_of body)
 
 abbrev pub replies_with : List HostEntry → DateParts → Received → Option Body → List Message
 replies_with entries created received None = []

@@ -2,7 +2,10 @@ ghost use Rattle.std.specs.Prelude.{◌≡◌, ℕ, List, [], length, IfOk, OnOk
 ghost use Rattle.cap_msgs.specs.Received.{Received};
 ghost use Rattle.cap_plays.specs.Turns.{Scene};
 ghost use Rattle.cap_plays.specs.Plays.{Doubts, first_scene, first_doubts};
-ghost use Rattle.cap_plays.specs.Laws.{IsReader, IsInRange, InRange, NoiseIsNobodys};
+ghost use Rattle.cap_schedule.specs.Reader.{IsReader};
+ghost use Rattle.cap_schedule.specs.Nobodys.{NoiseIsNobodys};
+ghost use Rattle.cap_schedule.specs.Ranges.{ActionInRange};
+ghost use Rattle.cap_plays.specs.Laws.{InRange};
 ghost use Rattle.cap_plays.specs.Session.{ActsSo, ReopensSo, ReportsSo, ActedAll, ReopenedAll, IsPlayed};
 
 use crate::laws;
@@ -21,17 +24,17 @@ pub trait Network: Drop {
 
     /// Does what a line asks for.
     fn act(&mut self, line: &Line) -> Result<Outcome, AllocError>
-        requires { IsInRange line.now.action }
+        requires { ActionInRange line.now.action }
         ensures { IfOk result (λ outcome. ActsSo (corresponds self.old) (corresponds self.new) line.now outcome) };
 
     /// Opens an end again where it is off.
     fn reopen(&mut self, end: End) -> Result<(), AllocError>
         ensures { OnOk result (ReopensSo (corresponds self.old) (corresponds self.new) end) };
 
-    /// Appends the report on each terminal, where every end is on.
-    fn put_report(&self, text: &mut Vec<u8>, schedule: &Schedule) -> Result<(), AllocError>
+    /// Appends the report on each terminal, where every end is on. What a host has captured is read from its disk.
+    fn put_report(&mut self, text: &mut Vec<u8>, schedule: &Schedule) -> Result<(), AllocError>
         requires { InRange schedule.now }
-        ensures { OnOk result (ReportsSo (corresponds self.now) schedule.now text.old.items text.new.items) };
+        ensures { OnOk result (ReportsSo (corresponds self.old) (corresponds self.new) schedule.now text.old.items text.new.items) };
 }
 
 // Does the lines of a schedule, and appends an outcome for each.

@@ -14,6 +14,7 @@ mod rows;
 mod schedule;
 mod setups;
 
+pub use lines::first_line;
 pub use outcome::{Outcome, reason_letters};
 pub use reader::read;
 pub use schedule::{

@@ -10,7 +10,7 @@ use Rattle.cap_leaf.specs.Trees.{Data}
 use Rattle.cap_text.specs.Pieces.{Spells, number_of}
 use Rattle.cap_text.specs.Faults.{FirstFault}
 use Rattle.cap_text.specs.Canon.{canonical_text}
-use Rattle.cap_world.specs.Report.{reason_text}
+use Rattle.cap_schedule.specs.Outcomes.{reason_text}
 
 -- `message NUMBER` and the canonical text, a line each
 abbrev pub message_text : Kind → Data → List ℕ

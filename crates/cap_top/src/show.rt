@@ -11,8 +11,8 @@ use crate::input::{InputFault, feed_all};
 use crate::status::Status;
 use cap_base::{Memory, PutError, Sink, Source};
 use cap_leaf::{Fault, Kind, Tree};
+use cap_schedule::reason_letters;
 use cap_text::{PieceReader, ReadError, message_number, write_document};
-use cap_world::reason_letters;
 use std::alloc::Global;
 
 // The number of a message and its canonical text, a line each.

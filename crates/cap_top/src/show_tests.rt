@@ -4,7 +4,8 @@ use cap_base::{Failed, Source};
 use std::alloc::{AllocError, Global};
 use std::test::Fail;
 
-const X: &str =
+/// A completion advice.
+pub const X: &str =
     "<Document xmlns=\"urn:x-cap20:1:caaa.003\"><AccptrCmpltnAdvc><Hdr><MsgFctn>CMPV</MsgFctn><PrtcolVrsn>1</PrtcolVrsn><XchgId>1</XchgId><CreDtTm>2023-11-14T22:13:20Z</CreDtTm><InitgPty><Id>T1</Id></InitgPty><RcptPty><Id>ACQ1</Id></RcptPty></Hdr><CmpltnAdvc><Tx><Sale><TxRef>1</TxRef><TtlAmt>12.50</TtlAmt><PAN>4000001234567899</PAN><AuthstnCd>OFFLIN</AuthstnCd></Sale></Tx></CmpltnAdvc></AccptrCmpltnAdvc></Document>";
 
 const X_SHOWN: &str =

@@ -4,31 +4,12 @@ use cap_base::{MemSink, MemSource, Source};
 use std::alloc::{AllocError, Global};
 use std::test::Fail;
 
-const SETUP: &str =
+/// A host and a terminal.
+pub const SETUP: &str =
     "host ACQ1 limit 500.00 block 411111 poll 60\nterminal T1 max 1000 floor 20.00\n";
 
 // The lines after the set-up, how the run ends, and what it prints.
-const ROWS: [(&str, Status, &str); 6] = [
-    (
-        "",
-        Status::Done,
-        "terminal T1 sales 0 completed 0 cancelled 0 voided 0 periods 0 items 0 acked 0 set 0\nhost T1 log 0 captured 0 0.00\nverdict T1 agree\n",
-    ),
-    (
-        "sale T1 12.50 4000001234567899\npush T1\nup T1 1\ndown T1 1\n",
-        Status::Done,
-        "3 sale 1\n4 sent 1\n5 answered 1 caaa.004\n6 acked 1\nterminal T1 sales 1 completed 1 cancelled 0 voided 0 periods 0 items 1 acked 1 set 0\nhost T1 log 1 captured 1 12.50\nverdict T1 agree\n",
-    ),
-    (
-        "sale T1 12.50 4000001234567899\npush T1\nup T1 1\nup T1 1\nup T1 1\n",
-        Status::Done,
-        "3 sale 1\n4 sent 1\n5 answered 1 caaa.004\n6 answered 2 caaa.004\n7 answered 3 caaa.004\nterminal T1 sales 1 completed 1 cancelled 0 voided 0 periods 0 items 1 acked 0 set 0\nhost T1 log 1 captured 1 12.50\nverdict T1 agree\n",
-    ),
-    (
-        "sale T1 12.50 4000001234567899\npush T1\nup T1 1\ndown T1 1\nsale T1 1.00 4000001234567899\npush T1\nup T1 2\ndown T1 2\ndown T1 1\n",
-        Status::Done,
-        "3 sale 1\n4 sent 1\n5 answered 1 caaa.004\n6 acked 1\n7 sale 2\n8 sent 2\n9 answered 2 caaa.004\n10 acked 2\n11 stale 1 2\nterminal T1 sales 2 completed 2 cancelled 0 voided 0 periods 0 items 2 acked 2 set 0\nhost T1 log 2 captured 2 13.50\nverdict T1 agree\n",
-    ),
+const ROWS: [(&str, Status, &str); 2] = [
     (
         "# a note\r\n\r\nsale T1 20.00 4000001234567899\r\nsale T1 20.01 4000001234567899\r\npush T1\nup T1 0\ndown T1 7",
         Status::Done,
@@ -38,7 +19,7 @@ const ROWS: [(&str, Status, &str); 6] = [
 ];
 
 // Lines that are none of the language, in the place of the third.
-const FAULTY: [&str; 20] = [
+const FAULTY: [&str; 19] = [
     "sale T1  1.00 4000001234567899",
     " sale T1 1.00 4000001234567899",
     "sale T1 1.00 4000001234567899 ",
@@ -56,7 +37,6 @@ const FAULTY: [&str; 20] = [
     "up T1 -1",
     "up T1 12345678901",
     "down T1 1 1",
-    "terminal T2 max 1 floor 0",
     "host ACQ1 limit 500.00 block none poll 60",
     " #",
 ];

@@ -1,5 +1,3 @@
-pub mod Splitting
-pub mod OtherLines
 pub mod Named
 pub mod Sound
 pub mod Parties
@@ -14,6 +12,3 @@ pub mod LegalRuns
 pub mod Merged
 pub mod MergedBytes
 pub mod Worked
-pub mod Runs
-pub mod Turning
-pub mod Sessions

@@ -7,12 +7,3 @@ pub mod LegalJournals
 pub mod Work
 pub mod Node
 pub mod Worked
-pub mod Blocks
-pub mod Language
-pub mod Matching
-pub mod Kinds
-pub mod Orders
-pub mod Turns
-pub mod Plays
-pub mod Report
-pub mod Session

@@ -1,6 +1,6 @@
 use Rattle.std.proofs.Common.{◌≡◌, ◌<◌, ◌≤◌, length, get_or, subst}
 use Rattle.cap_plays.proofs.Sessions.{acted_none, acted_more, acted_last, line_at}
-use Rattle.cap_plays.specs.Laws.{IsInRange}
+use Rattle.cap_schedule.specs.Ranges.{ActionInRange}
 use Rattle.cap_schedule.specs.declared.schedule.Line.{Line}
 use Rattle.cap_plays.proofs.session.act_all.Goals as goal
 
@@ -10,7 +10,7 @@ loop-line-init g c = acted_none (g.N.Network.corresponds c.args.network.now) c.a
 pub act-requires : goal.act-requires
 act-requires g c =
     let lines = c.as_slice-line-items.ensures in
-    line_at (λ (l : Line). IsInRange l.action) c.args.schedule.now.lines c.loop-line.line-index c.line-item.result (subst (λ l. c.loop-line.line-index < length l) lines c.loop-line-test.true)
+    line_at (λ (l : Line). ActionInRange l.action) c.args.schedule.now.lines c.loop-line.line-index c.line-item.result (subst (λ l. c.loop-line.line-index < length l) lines c.loop-line-test.true)
     (subst (λ l. c.line-item.result ≡ get_or l c.loop-line.line-index c.line-item.result) lines c.line-item.is) c.requires.range.lines
 
 pub loop-line-preserved : goal.loop-line-preserved

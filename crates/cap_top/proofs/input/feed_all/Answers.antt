@@ -1,4 +1,4 @@
-use Rattle.std.proofs.Common.{◌≡◌, ◌≤◌, ◌<◌, ◌+◌, ◌-◌, ℕ, List, ◌++◌, ◌^◌, length, arith, rules, subst, sym}
+use Rattle.std.proofs.Common.{◌≡◌, ◌<◌, ◌+◌, ℕ, List, ◌++◌, ◌^◌, length, arith, rules, subst, sym}
 use Rattle.std.specs.Io.KnownBytes.{Consumes, IsAtEnd}
 use Rattle.cap_top.proofs.Feeding.{consumes_more, consumes_none, bytes_of, few_lines, within_limits, past_size, past_lines, tally_more, bytes_more}
 use Rattle.cap_top.proofs.input.feed_all.Goals.{then-pieces-test+else-tally-le-MOST_LINES, else-pieces-test}

@@ -1,0 +1,6 @@
+pub mod Steps
+pub mod Reading
+pub mod Doing
+pub mod Logs
+pub mod Keeping
+pub mod Room

@@ -1,0 +1,5 @@
+use Rattle.cap_host_lines.proofs.Keeping.{kept_if}
+use Rattle.cap_host_lines.proofs.report.captured_line.Goals as goal
+
+pub returns-clause-keeps : goal.returns-clause-keeps
+returns-clause-keeps g c = kept_if c.args.host.now c.capture_line.new.self c.capture_line.result c.capture_line.ensures.reads

@@ -1,0 +1,12 @@
+//! The host as it ships, over a journal on a disk in memory, with its power.
+#![tactic(auto)]
+
+mod reporting;
+mod side;
+mod starting;
+#[cfg(test)]
+mod tests;
+
+pub use reporting::put_log;
+pub use side::{DiskHost, Done, act, reopen};
+pub use starting::{disk_in, set_up};

@@ -1,0 +1,59 @@
+use Rattle.std.proofs.Common.{◌≡◌, ℕ, ◌+◌, ◌≤◌, ◌<◌, Bool, true, false, List, [], ◌++◌, take, length, Option, Some, None, refl, sym, ◌∙◌, ap, subst, arith}
+use Rattle.std.specs.Prelude.{IfOk, OnOk, IfErr, MatchResult, ⊤, Ok, Err}
+use Rattle.cap_disk.specs.Disk.{Counts, StaysCounted}
+use Rattle.cap_disk.specs.Switch.{stop_of}
+use Rattle.cap_disk.specs.MemoryDisk.{contents_of, told_of, restart_image}
+use Rattle.cap_disk.specs.declared.memory.MemoryDisk.{MemoryDisk}
+use Rattle.cap_journal.specs.File.{Has}
+use Rattle.cap_journal.specs.Told.{StopsWithin}
+use Rattle.cap_schedule.specs.declared.outcome.Outcome.TheVariants.{WasCut, DiskFailed, Restarted}
+use Rattle.cap_schedule.specs.declared.schedule.Prefix.{Prefix}
+use Rattle.cap_schedule.specs.declared.schedule.Prefix.TheVariants.{Cut, Fail, CutAfter}
+use Rattle.cap_plays.specs.Plays.{Doubt, no_doubt, MayKeep}
+use Rattle.cap_plays.specs.Corresponds.{Holds, EndCorresponds}
+use Rattle.cap_plays.specs.Holding.{holds_fewer, end_fewer, end_cut}
+use Rattle.cap_power.specs.Counting.{Counting, CountsFromOne, cuts, cuts_after, arms, outcome_of_fault}
+use Rattle.cap_power.specs.Images.{images_of, NoOthers, IsRestarted, IsLeftBy, no_others_since, no_others_by_history, no_others_restarted, no_others_left}
+use Rattle.cap_power.specs.Standing.{Stands, IsReady, IsOnWith, IsOffWithOne}
+use Rattle.cap_power.specs.Fates.{opening, MeetsFate, Opens}
+use Rattle.cap_power.specs.declared.power.Power.{Power}
+use Rattle.cap_power.specs.declared.power.Power.TheVariants.{On, Off}
+use Rattle.cap_power.proofs.Numbers.{told_armed, told_anew, is_past, is_second, counting_cut, counting_fail, from_one_cut, from_one_fail}
+use Rattle.cap_power.proofs.Disks.{if_ok_map, stays_told, no_others_armed, shows_one, shown_among, shown_armed, is_restarted, left_by_cut, left_by_fault, opening_told, stops_at_length, fewer_armed, no_others_of, if_ok_at, if_err_at, match_ok_at, match_err_at, if_ok_any, on_ok_of, on_ok_at, on_ok_err, if_ok_err, if_ok_from, ok_not_err}
+use Rattle.cap_power.proofs.Openings.{meets_on, meets_off, meets_still, opens_past_cut, opens_past_fail, opens_second_cut, opens_second_fail, ready_off}
+use Rattle.cap_power.proofs.settling.unarmed.Goals as goal
+
+pub returns-in-Some-Cut-clause-entries : goal.returns-in-Some-Cut-clause-entries
+returns-in-Some-Cut-clause-entries g c = c.disarmed.ensures.entries
+
+pub returns-in-Some-Cut-clause-works : goal.returns-in-Some-Cut-clause-works
+returns-in-Some-Cut-clause-works g c = c.disarmed.ensures.works
+
+pub returns-in-Some-Cut-clause-images : goal.returns-in-Some-Cut-clause-images
+returns-in-Some-Cut-clause-images g c = c.disarmed.ensures.images
+
+pub returns-in-Some-Cut-clause-counts : goal.returns-in-Some-Cut-clause-counts
+returns-in-Some-Cut-clause-counts g c = λ calls stop is unarmed. c.disarmed.ensures.counts calls stop is
+
+pub returns-in-Some-Fail-clause-entries : goal.returns-in-Some-Fail-clause-entries
+returns-in-Some-Fail-clause-entries g c = c.disarmed-in-Some-Fail.ensures.entries
+
+pub returns-in-Some-Fail-clause-works : goal.returns-in-Some-Fail-clause-works
+returns-in-Some-Fail-clause-works g c = c.disarmed-in-Some-Fail.ensures.works
+
+pub returns-in-Some-Fail-clause-images : goal.returns-in-Some-Fail-clause-images
+returns-in-Some-Fail-clause-images g c = c.disarmed-in-Some-Fail.ensures.images
+
+pub returns-in-Some-Fail-clause-counts : goal.returns-in-Some-Fail-clause-counts
+returns-in-Some-Fail-clause-counts g c = λ calls stop is unarmed. c.disarmed-in-Some-Fail.ensures.counts calls stop is
+
+still : (prefix : Option Prefix) (told : Option Counts) (calls : ℕ) (stop : Option ℕ) → told ≡ Some (record { calls = calls; stop = stop }) → (arms prefix ≡ false → stop ≡ None) → arms prefix ≡ false → told ≡ Some (record { calls = calls; stop = None })
+still prefix told calls stop is unarmed not_armed = is ∙ ap (λ (s : Option ℕ). let x : Counts = record { calls = calls; stop = s } in Some x) (unarmed not_armed)
+
+pub returns-in-Some-CutAfter-clause-counts : goal.returns-in-Some-CutAfter-clause-counts
+returns-in-Some-CutAfter-clause-counts g c = λ calls stop is unarmed.
+    let prefix_is : c.args.prefix ≡ Some CutAfter = grind (arith, c.in-Some-CutAfter.is, c.in-Some-CutAfter.field-0-is) in
+    still c.args.prefix (told_of (g.T.OverDisk.disk c.args.end)) calls stop is unarmed (ap arms prefix_is)
+
+pub returns-in-None-clause-counts : goal.returns-in-None-clause-counts
+returns-in-None-clause-counts g c = λ calls stop is unarmed. still c.args.prefix (told_of (g.T.OverDisk.disk c.args.end)) calls stop is unarmed (ap arms c.in-None.is)

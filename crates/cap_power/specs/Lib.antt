@@ -1,0 +1,5 @@
+pub mod Counting
+pub mod Prefixes
+pub mod Images
+pub mod Standing
+pub mod Fates

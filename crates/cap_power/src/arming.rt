@@ -1,0 +1,79 @@
+// Which device call of an end's disk fails, or cuts the power. Calls of `read_at` do not count.
+ghost use Rattle.std.specs.Prelude.{◌≡◌, ℕ, false, Option, Some, None, IfOk};
+ghost use Rattle.cap_disk.specs.Disk.{Counts};
+ghost use Rattle.cap_disk.specs.Switch.{stop_of};
+ghost use Rattle.cap_disk.specs.MemoryDisk.{told_of};
+ghost use Rattle.cap_power.specs.Counting.{Counting, CountsFromOne};
+ghost use Rattle.cap_power.specs.Images.{NoOthers};
+
+use crate::OverDisk;
+use cap_base::Memory;
+use cap_disk::{Counted, Fill, MemoryDisk};
+use cap_journal::{DiskJournal, Journal, OnDisk, Record};
+use cap_schedule::Prefix;
+use std::alloc::Global;
+
+/// A journal with a call of its disk armed: to cut the power there, or to fail.
+pub(crate) fn arm_journal<E: Record>(
+    journal: DiskJournal<E, MemoryDisk>,
+    call: u64,
+    fill: Fill,
+    cuts: bool,
+) -> DiskJournal<E, MemoryDisk>
+    ensures entries { ⟦<DiskJournal<E, MemoryDisk> as Journal<E>>⟧.entries result ≡ ⟦<DiskJournal<E, MemoryDisk> as Journal<E>>⟧.entries journal }
+    ensures has_failed { ⟦<DiskJournal<E, MemoryDisk> as Journal<E>>⟧.has_failed result ≡ ⟦<DiskJournal<E, MemoryDisk> as Journal<E>>⟧.has_failed journal }
+    ensures images { NoOthers (⟦<DiskJournal<E, MemoryDisk> as OnDisk<MemoryDisk>>⟧.disk journal) (⟦<DiskJournal<E, MemoryDisk> as OnDisk<MemoryDisk>>⟧.disk result) }
+    ensures counts { (c : Counts) → told_of (⟦<DiskJournal<E, MemoryDisk> as OnDisk<MemoryDisk>>⟧.disk journal) ≡ Some c → told_of (⟦<DiskJournal<E, MemoryDisk> as OnDisk<MemoryDisk>>⟧.disk result) ≡ Some (record { calls = c.calls; stop = stop_of c.calls call }) }
+{
+    let mut journal = journal;
+    if cuts {
+        journal.arm_cut(call, fill, Counted::NoReads);
+        journal
+    } else {
+        journal.arm_fail(call, fill, Counted::NoReads);
+        journal
+    }
+}
+
+/// The end that works, with the call that the prefix names armed on its disk, and all else as it was. The one error is want of memory.
+pub fn armed<E: Record, T: OverDisk<E>>(
+    alloc: Global,
+    end: T,
+    prefix: Option<Prefix>,
+) -> Result<T, Memory>
+    requires { T.has_failed end ≡ false }
+    ensures entries { IfOk result (λ now. T.entries now ≡ T.entries end) }
+    ensures works { IfOk result (λ now. T.has_failed now ≡ false) }
+    ensures images { IfOk result (λ now. NoOthers (T.disk end) (T.disk now)) }
+    ensures call { IfOk result (λ now. CountsFromOne prefix) }
+    ensures counts { (most : ℕ) → Counting None most (told_of (T.disk end)) → IfOk result (λ now. Counting prefix most (told_of (T.disk now))) }
+{
+    match prefix {
+        Some(Prefix::Cut { call, fill }) => {
+            // no prefix of a schedule names call 0
+            if call == 0 {
+                return Err(Memory);
+            }
+            end.arm(alloc, call, fill, true)
+        }
+        Some(Prefix::Fail { call, fill }) => {
+            if call == 0 {
+                return Err(Memory);
+            }
+            end.arm(alloc, call, fill, false)
+        }
+        Some(Prefix::CutAfter) => Ok(end),
+        None => Ok(end),
+    }
+}
+
+/// The end that works, with nothing armed on its disk, and all else as it was. The one error is want of memory.
+pub fn disarmed<E: Record, T: OverDisk<E>>(alloc: Global, end: T) -> Result<T, Memory>
+    requires { T.has_failed end ≡ false }
+    ensures entries { IfOk result (λ now. T.entries now ≡ T.entries end) }
+    ensures works { IfOk result (λ now. T.has_failed now ≡ false) }
+    ensures images { IfOk result (λ now. NoOthers (T.disk end) (T.disk now)) }
+    ensures counts { (calls : ℕ) (stop : Option ℕ) → told_of (T.disk end) ≡ Some (record { calls = calls; stop = stop }) → IfOk result (λ now. told_of (T.disk now) ≡ Some (record { calls = calls; stop = None })) }
+{
+    end.arm(alloc, 0, Fill::Old, false)
+}

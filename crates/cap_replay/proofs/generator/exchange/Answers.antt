@@ -1,0 +1,5 @@
+use Rattle.cap_replay.proofs.Adding.{adds_then}
+use Rattle.cap_replay.proofs.generator.exchange.Goals as goal
+
+pub returns : goal.returns
+returns c = adds_then _ _ _ _ _ c.in_ok-put_order.ensures (adds_then _ _ _ _ _ c.in_ok-put_ups.ensures c.in_ok-put_order-2.ensures)

@@ -1,0 +1,13 @@
+use Rattle.cap_replay.proofs.replaying.play_over.Goals as goal
+
+pub returns : goal.returns
+returns g c = λ reads reader noise.
+    let p = c.in_ok-text.ensures reads reader noise in
+    record {
+      played = p.played;
+      does = p.does;
+      agrees = p.agrees;
+      all_on = p.all_on;
+      reports = p.reports;
+      holds = c.in_ok-disks.ensures p.played.last p.doubts p.stands p.all_on;
+    }

@@ -1,0 +1,250 @@
+-- What a line makes of what a terminal takes.
+use Rattle.std.proofs.Common.{◌≡◌, ◌⊎◌, ⊎_elim, inl, inr, ℕ, ◌+◌, ◌^◌, ◌<◌, Bool, true, false, not, List, [], ◌∷◌, ◌++◌, Option, Some, None, Ok, Err, refl, sym, ◌∙◌, ap, subst, append-nil, IsTrue}
+use Rattle.std.specs.Prelude.{Result, IsErrOf, nat_le, nat_lt, if◌then◌else◌, length, slice_get}
+use Rattle.std.proofs.lemmas.Bool.{false≢true, cond-false}
+use Rattle.std.proofs.lemmas.Option.{none-some, same_Some}
+use Rattle.cap_base.specs.declared.codes.Response.{Response}
+use Rattle.cap_base.specs.declared.codes.Response.TheVariants.{Appr, Decl, Part as Part_response, Tech}
+use Rattle.cap_disk.specs.Disk.{Counts, LeavesOnly}
+use Rattle.cap_journal.specs.File.{Has}
+use Rattle.cap_journal.specs.Seen.{EveryImageHas}
+use Rattle.cap_msgs.specs.declared.message.Message.{Message}
+use Rattle.cap_msgs.specs.Received.{Received, Read, Unread}
+use Rattle.cap_msgs.specs.Reply.{Reply, Rejects, Decides_sale, Decides_cancel, Tells_state, Gives_plan, Gives_part, Acknowledges, From_terminal, reply_of, Acknowledgement, Of_end, Of_cancel, Of_close, Of_items, acknowledges, named_item}
+use Rattle.cap_entries.specs.declared.terminal.TermEntry.{TermEntry}
+use Rattle.cap_entries.specs.declared.terminal.TermEntry.TheVariants.{Declined, Acked, Part as Part_entry}
+use Rattle.cap_entries.specs.TermRecord.{term_reading}
+use Rattle.cap_entries.specs.Acked.{acked}
+use Rattle.cap_entries.specs.Items.{items}
+use Rattle.cap_entries.specs.Allowed.{part_allowed}
+use Rattle.cap_sale.specs.declared.response.AuthResponse.{AuthResponse}
+use Rattle.cap_terminal.specs.declared.handled.Handled.{Handled}
+use Rattle.cap_terminal.specs.declared.handled.Handled.TheVariants as H
+use Rattle.cap_terminal.specs.declared.handled.TermFault.{TermFault}
+use Rattle.cap_terminal.specs.declared.handled.TermFault.TheVariants as F
+use Rattle.cap_terminal.specs.Causes.{is_adding, MayTake, IsTakeCause}
+use Rattle.cap_terminal.specs.Handles.{Handles}
+use Rattle.cap_terminal.specs.Does.{Decline}
+use Rattle.cap_terminal.specs.Takes.{Taken, IsNotOurs, refuses, takes, take_reply, take_part, take_acknowledgement, is_awaited, acked_answer, is_for_us}
+use Rattle.cap_schedule.specs.declared.outcome.Outcome.{Outcome}
+use Rattle.cap_schedule.specs.declared.outcome.Outcome.TheVariants as O
+use Rattle.cap_world.specs.World.{TerminalState, TerminalAction}
+use Rattle.cap_plays.specs.declared.fault.LineFault.{LineFault}
+use Rattle.cap_plays.specs.declared.fault.LineFault.TheVariants.{Disk, Memory}
+use Rattle.cap_plays.specs.Turns.{Turn, makes, says, Decided, left_with, on_response, on_handled, fault_outcome, decided, decides_on}
+use Rattle.cap_terminal_lines.specs.declared.said.Said.{Said}
+use Rattle.cap_plays.specs.Texts.{IsSent}
+use Rattle.cap_terminal_lines.specs.Acts.{IsReady, LineDone, AddDone}
+use Rattle.cap_terminal_lines.specs.Hears.{decision_in, IsAnswerAlone, says_only, refusal_of, DecidedDone}
+use Rattle.cap_terminal_lines.proofs.Steps.{Breaks, Grows, add_ok, add_disk, grew_trying, broke_trying, rest_trying, rest_of, rested_ready}
+use Rattle.cap_terminal_lines.proofs.Quiet.{quiet_line}
+
+-- what is taken adds nothing, or one entry with an answer that decides no sale
+abbrev pub IsSorted : Taken → Type 0
+IsSorted taken = (taken.added ≡ []) ⊎ ((entry : TermEntry) × (handled : Handled) × (taken.added ≡ entry ∷ []) × (taken.answer ≡ Ok handled) × IsAnswerAlone handled)
+
+sorted_either : (b : Bool) (x y : Taken) → IsSorted x → IsSorted y → IsSorted (if b then x else y)
+sorted_either true x y one other = one
+sorted_either false x y one other = other
+
+acknowledgement_alone : (m : ℕ) (ack : Acknowledgement) → IsAnswerAlone (acked_answer m ack)
+acknowledgement_alone m (Of_end response) = refl
+acknowledgement_alone m (Of_cancel response) = refl
+acknowledgement_alone m (Of_close response period totals) = refl
+acknowledgement_alone m (Of_items response last) = refl
+
+acknowledgement_sorted : (entries : List TermEntry) (m : ℕ) (ack : Acknowledgement) → IsSorted (take_acknowledgement entries m ack)
+acknowledgement_sorted entries m ack =
+    sorted_either (not (acknowledges ack)) _ _ (inl refl)
+    (sorted_either (nat_le m (acked entries)) _ _ (inl refl)
+    (sorted_either (nat_lt (length (items entries)) m) _ _ (inl refl)
+    (sorted_either (is_awaited entries m ack) _ _ (inr (Acked m, acked_answer m ack, refl, refl, acknowledgement_alone m ack)) (inl refl))))
+
+reply_sorted : (entries : List TermEntry) (number : ℕ) (reply : Reply) → IsSorted (take_reply entries number reply)
+reply_sorted entries number (Rejects reason) = inl refl
+reply_sorted entries number (Decides_sale response code) = inl refl
+reply_sorted entries number (Decides_cancel response) = inl refl
+reply_sorted entries number (Tells_state last) = inl refl
+reply_sorted entries number (Gives_plan actions) = inl refl
+reply_sorted entries number (Gives_part part) = sorted_either (part_allowed entries part) _ _ (inr (Part_entry part, H.Part part.version part.part part.parts, refl, refl, refl)) (inl refl)
+reply_sorted entries number (Acknowledges ack) = acknowledgement_sorted entries (named_item number ack) ack
+reply_sorted entries number From_terminal = inl refl
+
+pub taken_sorted : (entries : List TermEntry) (received : Received) → IsSorted (takes entries received)
+taken_sorted entries (Unread fault) = inl refl
+taken_sorted entries (Read message) = sorted_either (is_for_us entries message) _ _ (reply_sorted entries message.header.exchange (reply_of message.body)) (inl refl)
+
+-- an answer that decides no sale adds nothing more, and says the same whatever the entries are
+pub alone_decided : (walks_out : Bool) (entries : List TermEntry) (handled : Handled) → IsAnswerAlone handled → on_handled walks_out entries handled ≡ left_with (on_handled false [] handled).outcome
+alone_decided walks_out entries (H.Authorisation given) alone = absurd (none-some given (sym alone))
+alone_decided walks_out entries (H.CancelAnswer n response) alone = refl
+alone_decided walks_out entries (H.Diagnosed last) alone = refl
+alone_decided walks_out entries (H.Plan actions) alone = refl
+alone_decided walks_out entries (H.Part version part parts) alone = refl
+alone_decided walks_out entries (H.Acked m) alone = refl
+alone_decided walks_out entries (H.Reconciled m totals agree) alone = refl
+
+-- an answer that has a decision is that decision
+pub decision_is : (handled : Handled) (given : AuthResponse) → Some given ≡ decision_in handled → handled ≡ H.Authorisation given
+decision_is (H.Authorisation other) given is = ap (λ (x : AuthResponse). H.Authorisation x) (same_Some _ _ (sym is))
+decision_is (H.CancelAnswer n response) given is = absurd (none-some given (sym is))
+decision_is (H.Diagnosed last) given is = absurd (none-some given (sym is))
+decision_is (H.Plan actions) given is = absurd (none-some given (sym is))
+decision_is (H.Part version part parts) given is = absurd (none-some given (sym is))
+decision_is (H.Acked m) given is = absurd (none-some given (sym is))
+decision_is (H.Reconciled m totals agree) given is = absurd (none-some given (sym is))
+
+-- noise adds nothing
+pub noise_adds_nothing : (entries : List TermEntry) (received : Received) → IsNotOurs entries received → (takes entries received).added ++ (decides_on false entries received).added ≡ []
+noise_adds_nothing entries (Unread fault) noise = refl
+noise_adds_nothing entries (Read message) noise =
+    ap (λ (t : Taken). t.added ++ (decided false entries t.answer).added) (cond-false (is_for_us entries message) (take_reply entries message.header.exchange (reply_of message.body)) (refuses F.NotForUs) noise)
+
+-- a sale that is not approved is declined
+pub declined : (walks_out : Bool) (n : ℕ) (response : Response) (code : List ℕ) → (response ≡ Appr → ⊥) → on_response walks_out n response code ≡ record { decision = Decline; added = Declined n ∷ []; outcome = O.DeclinedSale n }
+declined walks_out n Appr code other = absurd (other refl)
+declined walks_out n Decl code other = refl
+declined walks_out n Part_response code other = refl
+declined walks_out n Tech code other = refl
+
+-- an answer that is a refusal adds nothing
+refused_adds_nothing : (taken : Taken) (fault : TermFault) → IsSorted taken → taken.answer ≡ Err fault → taken.added ≡ []
+refused_adds_nothing taken fault (inl none) is = none
+refused_adds_nothing taken fault (inr (entry, handled, added, answer, alone)) is = absurd (let e = sym answer ∙ is in cc)
+
+abbrev IsDisk : TermFault → Type 0
+IsDisk fault = IsErrOf {T = Handled} (Err fault) F.Disk
+
+not_adding : (added : List TermEntry) → is_adding added ≡ true → added ≡ [] → ⊥
+not_adding added adding none = false≢true (sym (ap is_adding none) ∙ adding)
+
+module _ {J : Type 0} (entries : J → List TermEntry) (has_failed tells : J → Bool) (moment : J → ℕ) (left_since : J → ℕ → List ℕ → Type 0) (may_leave : J → List ℕ → Type 0) (counts : J → Option Counts)
+    (kept : (journal : J) (image : List ℕ) → IsTrue (tells journal) → has_failed journal ≡ false → may_leave journal image → Has term_reading image (entries journal)) where
+  -- a line of one step that adds this and says this
+  abbrev pub StepDone : J → List Message → TerminalState → List ℕ → Option ℕ → Outcome → Counts → TerminalAction → Result Said LineFault → (taken : List TermEntry) → Decided → Type 0
+  StepDone now heard s places armed ended before action result taken d =
+      LineDone entries has_failed tells may_leave counts 4 now heard s places armed ended before (makes (record { action = action; added = taken ++ d.added; sent = [] }) d.outcome) result
+
+  -- the state's entries in place of the journal's
+  heard_in : (now : J) (heard : List Message) (s : TerminalState) (places : List ℕ) (armed : Option ℕ) (ended : Outcome) (before : Counts) (action : TerminalAction) (result : Result Said LineFault) (walks_out : Bool) (received : Received) (list : List TermEntry)
+      → list ≡ s.settled → StepDone now heard s places armed ended before action result (takes list received).added (decided walks_out list (takes list received).answer)
+      → StepDone now heard s places armed ended before action result (takes s.settled received).added (decides_on walks_out s.settled received)
+  heard_in now heard s places armed ended before action result walks_out received list is done =
+      subst (λ (l : List TermEntry). StepDone now heard s places armed ended before action result (takes l received).added (decides_on walks_out l received)) is done
+
+  pub only_said : (now : J) (heard : List Message) (s : TerminalState) (places : List ℕ) (armed : Option ℕ) (ended : Outcome) (before : Counts) (action : TerminalAction) (outcome : Outcome) (given : Said)
+      → IsReady entries has_failed tells may_leave counts 4 now heard s places armed before → given ≡ says_only outcome → StepDone now heard s places armed ended before action (Ok given) [] (left_with outcome)
+  only_said now heard s places armed ended before action outcome given ready is =
+      quiet_line entries has_failed tells may_leave counts 4 now heard s places armed ended before action [] outcome given ready (ap (λ (d : Said). d.outcome) is) (subst (λ (d : Said). IsSent d.sent []) (sym is) tt)
+
+  -- what was taken added nothing
+  rested_after : (old mid : J) (heard : List Message) (s : TerminalState) (places : List ℕ) (armed : Option ℕ) (before : Counts) (taken : Taken) (result : Result Handled TermFault)
+      → IsReady entries has_failed tells may_leave counts 4 old heard s places armed before → Handles entries has_failed tells moment left_since may_leave counts old mid result taken → taken.added ≡ []
+      → (result ≡ Err F.Disk → ⊥) → tells mid ≡ tells old → has_failed mid ≡ has_failed old → entries mid ≡ entries old
+      → IsReady entries has_failed tells may_leave counts 4 mid heard s places armed before
+  rested_after old mid heard s places armed before taken result ready h none no_disk same_told same_works same =
+      let counts_are : counts mid ≡ Some before = rest_trying (counts old) (counts mid) _ _ _ _ before ready.counts_are ready.few h.counted (λ ok. not_adding taken.added ok.1 none) no_disk in
+      rested_ready entries has_failed tells may_leave counts 4 old mid heard s places armed before ready
+      (rest_of entries has_failed tells may_leave counts old mid before kept ready.told ready.works same_told same_works same counts_are)
+
+  -- a refusal of its own
+  refused_line : (old new : J) (heard : List Message) (s : TerminalState) (places : List ℕ) (armed : Option ℕ) (ended : Outcome) (before : Counts) (action : TerminalAction) (walks_out : Bool) (received : Received) (fault : TermFault)
+      → IsReady entries has_failed tells may_leave counts 4 old heard s places armed before → Handles entries has_failed tells moment left_since may_leave counts old new (Err fault) (takes (entries old) received)
+      → (takes (entries old) received).answer ≡ Err fault → (IsDisk fault → ⊥) → tells new ≡ tells old → has_failed new ≡ has_failed old → entries new ≡ entries old
+      → StepDone new heard s places armed ended before action (Ok (says_only (fault_outcome fault))) (takes s.settled received).added (decides_on walks_out s.settled received)
+  refused_line old new heard s places armed ended before action walks_out received fault ready h answer no_disk same_told same_works same =
+      let taken : Taken = takes (entries old) received in
+      let given : Result Said LineFault = Ok (says_only (fault_outcome fault)) in
+      let none : taken.added ≡ [] = refused_adds_nothing taken fault (taken_sorted (entries old) received) answer in
+      let again = rested_after old new heard s places armed before taken (Err fault) ready h none no_disk same_told same_works same in
+      let line = only_said new heard s places armed ended before action (fault_outcome fault) (says_only (fault_outcome fault)) again refl in
+      heard_in new heard s places armed ended before action given walks_out received (entries old) (ready.stands.end.entries_are refl)
+      (subst (λ (r : Result Handled TermFault). StepDone new heard s places armed ended before action given taken.added (decided walks_out (entries old) r)) (sym answer)
+      (subst (λ (l : List TermEntry). StepDone new heard s places armed ended before action given l (left_with (fault_outcome fault))) (sym none) line))
+
+  -- a device call failed as the entry was added
+  broken_heard : (old new : J) (heard : List Message) (s : TerminalState) (places : List ℕ) (armed : Option ℕ) (ended : Outcome) (before : Counts) (action : TerminalAction) (walks_out : Bool) (received : Received)
+      → IsReady entries has_failed tells may_leave counts 4 old heard s places armed before → Handles entries has_failed tells moment left_since may_leave counts old new (Err F.Disk) (takes (entries old) received)
+      → IsSorted (takes (entries old) received)
+      → StepDone new heard s places armed ended before action (Err Disk) (takes s.settled received).added (decides_on walks_out s.settled received)
+  broken_heard old new heard s places armed ended before action walks_out received ready h (inl none) = absurd (not_adding (takes (entries old) received).added h.refused.0 none)
+  broken_heard old new heard s places armed ended before action walks_out received ready h (inr (entry, handled, added, answer, alone)) =
+      let taken : Taken = takes (entries old) received in
+      let d : Decided = on_handled walks_out (entries old) handled in
+      let outcome : Outcome = (on_handled false [] handled).outcome in
+      let breaks = broke_trying entries has_failed tells may_leave counts old new taken.added _ _ _ _ (λ told. h.in_doubt told refl) h.counted refl in
+      let breaks_entry = subst (λ (l : List TermEntry). (k : Counts) → counts old ≡ Some k → k.calls + 4 < 2 ^ 64 → IsTrue (tells old) → has_failed old ≡ false → Breaks entries has_failed tells may_leave counts old new l k) added breaks in
+      let line = add_disk entries has_failed tells may_leave counts old new entry outcome breaks_entry action heard s places armed ended before ready in
+      heard_in new heard s places armed ended before action (Err Disk) walks_out received (entries old) (ready.stands.end.entries_are refl)
+      (subst (λ (r : Result Handled TermFault). StepDone new heard s places armed ended before action (Err Disk) taken.added (decided walks_out (entries old) r)) (sym answer)
+      (subst (λ (l : List TermEntry). StepDone new heard s places armed ended before action (Err Disk) l d) (sym added)
+      (subst (λ (x : Decided). StepDone new heard s places armed ended before action (Err Disk) (entry ∷ []) x) (sym (alone_decided walks_out (entries old) handled alone))
+      line)))
+
+  -- the line goes on with an answer that was taken
+  taken_line : (old mid new : J) (heard : List Message) (s : TerminalState) (places : List ℕ) (armed : Option ℕ) (ended : Outcome) (before : Counts) (action : TerminalAction) (walks_out : Bool) (received : Received) (handled : Handled) (result : Result Said LineFault)
+      → IsReady entries has_failed tells may_leave counts 4 old heard s places armed before → Handles entries has_failed tells moment left_since may_leave counts old mid (Ok handled) (takes (entries old) received)
+      → tells mid ≡ tells old → has_failed mid ≡ has_failed old → (IsTrue (tells old) → has_failed mid ≡ false → EveryImageHas may_leave term_reading mid (entries mid))
+      → DecidedDone entries has_failed tells may_leave counts mid new (λ l. on_handled walks_out l handled) result
+      → (IsAnswerAlone handled → result ≡ Ok (says_only (on_handled false [] handled).outcome)) → (IsAnswerAlone handled → new ≡ mid)
+      → IsSorted (takes (entries old) received)
+      → StepDone new heard s places armed ended before action result (takes s.settled received).added (decides_on walks_out s.settled received)
+  taken_line old mid new heard s places armed ended before action walks_out received handled result ready h same_told same_works each done says_it stays (inl none) =
+      let taken : Taken = takes (entries old) received in
+      let is : entries old ≡ s.settled = ready.stands.end.entries_are refl in
+      let same : entries mid ≡ entries old = h.ok ∙ (ap (λ (l : List TermEntry). entries old ++ l) none ∙ append-nil (entries old)) in
+      let again = rested_after old mid heard s places armed before taken (Ok handled) ready h none (λ e. cc) same_told same_works same in
+      let line = subst (λ (l : List TermEntry). StepDone new heard s places armed ended before action result [] (on_handled walks_out l handled)) (sym is) (done action heard s places armed ended before again) in
+      heard_in new heard s places armed ended before action result walks_out received (entries old) is
+      (subst (λ (r : Result Handled TermFault). StepDone new heard s places armed ended before action result taken.added (decided walks_out (entries old) r)) (sym h.answer)
+      (subst (λ (l : List TermEntry). StepDone new heard s places armed ended before action result l (on_handled walks_out (entries old) handled)) (sym none) line))
+  taken_line old mid new heard s places armed ended before action walks_out received handled result ready h same_told same_works each done says_it stays (inr (entry, other, added, answer, alone)) =
+      let taken : Taken = takes (entries old) received in
+      let is : entries old ≡ s.settled = ready.stands.end.entries_are refl in
+      let outcome : Outcome = (on_handled false [] handled).outcome in
+      let both = sym answer ∙ h.answer in
+      let same_answer : other ≡ handled = cc in
+      let alone_too : IsAnswerAlone handled = subst (λ (x : Handled). IsAnswerAlone x) same_answer alone in
+      let adding : is_adding taken.added ≡ true = ap is_adding added in
+      let worked_mid : has_failed mid ≡ false = same_works ∙ ready.works in
+      let grows = grew_trying entries has_failed tells may_leave counts old mid taken.added _ _ _ _ h.ok (λ told. each told worked_mid) worked_mid same_told h.counted (refl, adding) (λ e. cc) (λ e. cc) (adding, ready.works) in
+      let grows_entry = subst (λ (l : List TermEntry). (k : Counts) → counts old ≡ Some k → k.calls + 4 < 2 ^ 64 → IsTrue (tells old) → has_failed old ≡ false → Grows entries has_failed tells may_leave counts old mid l k) added grows in
+      let line = add_ok entries has_failed tells may_leave counts old mid entry outcome (says_only outcome) refl grows_entry action heard s places armed ended before ready in
+      heard_in new heard s places armed ended before action result walks_out received (entries old) is
+      (subst (λ (r : Result Handled TermFault). StepDone new heard s places armed ended before action result taken.added (decided walks_out (entries old) r)) (sym h.answer)
+      (subst (λ (l : List TermEntry). StepDone new heard s places armed ended before action result l (on_handled walks_out (entries old) handled)) (sym added)
+      (subst (λ (x : Decided). StepDone new heard s places armed ended before action result (entry ∷ []) x) (sym (alone_decided walks_out (entries old) handled alone_too))
+      (subst (λ (r : Result Said LineFault). StepDone new heard s places armed ended before action r (entry ∷ []) (left_with outcome)) (sym (says_it alone_too))
+      (subst (λ (j : J). StepDone j heard s places armed ended before action (Ok (says_only outcome)) (entry ∷ []) (left_with outcome)) (sym (stays alone_too)) line)))))
+
+  pub heard_ok : (old mid new : J) (walks_out : Bool) (received : Received) (handled : Handled) (result : Result Said LineFault)
+      → Handles entries has_failed tells moment left_since may_leave counts old mid (Ok handled) (takes (entries old) received)
+      → tells mid ≡ tells old → has_failed mid ≡ has_failed old → (IsTrue (tells old) → has_failed mid ≡ false → EveryImageHas may_leave term_reading mid (entries mid))
+      → DecidedDone entries has_failed tells may_leave counts mid new (λ l. on_handled walks_out l handled) result
+      → (IsAnswerAlone handled → result ≡ Ok (says_only (on_handled false [] handled).outcome)) → (IsAnswerAlone handled → new ≡ mid)
+      → (action : TerminalAction) (heard : List Message) (s : TerminalState) (places : List ℕ) (armed : Option ℕ) (ended : Outcome) (before : Counts) → IsReady entries has_failed tells may_leave counts 4 old heard s places armed before
+      → StepDone new heard s places armed ended before action result (takes s.settled received).added (decides_on walks_out s.settled received)
+  heard_ok old mid new walks_out received handled result h same_told same_works each done says_it stays action heard s places armed ended before ready =
+      taken_line old mid new heard s places armed ended before action walks_out received handled result ready h same_told same_works each done says_it stays (taken_sorted (entries old) received)
+
+  pub heard_err : (old new : J) (walks_out : Bool) (received : Received) (fault : TermFault)
+      → Handles entries has_failed tells moment left_since may_leave counts old new (Err fault) (takes (entries old) received)
+      → tells new ≡ tells old → ((IsDisk fault → ⊥) → has_failed new ≡ has_failed old) → entries new ≡ entries old
+      → (action : TerminalAction) (heard : List Message) (s : TerminalState) (places : List ℕ) (armed : Option ℕ) (ended : Outcome) (before : Counts) → IsReady entries has_failed tells may_leave counts 4 old heard s places armed before
+      → StepDone new heard s places armed ended before action (refusal_of fault) (takes s.settled received).added (decides_on walks_out s.settled received)
+  heard_err old new walks_out received F.Disk h same_told same_works same action heard s places armed ended before ready =
+      broken_heard old new heard s places armed ended before action walks_out received ready h (taken_sorted (entries old) received)
+  heard_err old new walks_out received F.Failed h same_told same_works same action heard s places armed ended before ready = absurd (false≢true (sym ready.works ∙ h.refused.1))
+  heard_err old new walks_out received F.Memory h same_told same_works same action heard s places armed ended before ready = tt
+  heard_err old new walks_out received (F.Unread fault) h same_told same_works same action heard s places armed ended before ready =
+      refused_line old new heard s places armed ended before action walks_out received (F.Unread fault) ready h h.refused (λ e. cc) same_told (same_works (λ e. cc)) same
+  heard_err old new walks_out received F.NotForUs h same_told same_works same action heard s places armed ended before ready =
+      refused_line old new heard s places armed ended before action walks_out received F.NotForUs ready h h.refused (λ e. cc) same_told (same_works (λ e. cc)) same
+  heard_err old new walks_out received (F.Rejected reason) h same_told same_works same action heard s places armed ended before ready =
+      refused_line old new heard s places armed ended before action walks_out received (F.Rejected reason) ready h h.refused (λ e. cc) same_told (same_works (λ e. cc)) same
+  heard_err old new walks_out received F.NotAwaited h same_told same_works same action heard s places armed ended before ready =
+      refused_line old new heard s places armed ended before action walks_out received F.NotAwaited ready h h.refused (λ e. cc) same_told (same_works (λ e. cc)) same
+  heard_err old new walks_out received (F.Stale m acked) h same_told same_works same action heard s places armed ended before ready =
+      refused_line old new heard s places armed ended before action walks_out received (F.Stale m acked) ready h h.refused (λ e. cc) same_told (same_works (λ e. cc)) same
+  heard_err old new walks_out received (F.Beyond m len) h same_told same_works same action heard s places armed ended before ready =
+      refused_line old new heard s places armed ended before action walks_out received (F.Beyond m len) ready h h.refused (λ e. cc) same_told (same_works (λ e. cc)) same

@@ -1,0 +1,38 @@
+use Rattle.std.proofs.Common.{◌≡◌, ℕ, List, [], ◌∷◌, None, Ok, Err, refl, true, false, sym, subst, ap, ◌∙◌}
+use Rattle.std.proofs.lemmas.Bool.{false≢true}
+use Rattle.cap_entries.specs.declared.terminal.TermEntry.{TermEntry}
+use Rattle.cap_entries.specs.declared.terminal.TermEntry.TheVariants.{Voided}
+use Rattle.cap_schedule.specs.declared.outcome.Outcome.TheVariants.{GivenUp}
+use Rattle.cap_terminal.specs.declared.faults.EntryFault.{EntryFault}
+use Rattle.cap_terminal.specs.Causes.{IsEntryCause}
+use Rattle.cap_terminal_lines.specs.declared.said.Said.{Said}
+use Rattle.cap_terminal_lines.proofs.Steps.{add_ok, add_disk, grew_adding, broke_adding}
+use Rattle.cap_terminal_lines.proofs.ends.void_begun.Goals as goal
+
+pub void_begun-requires : goal.void_begun-requires
+void_begun-requires g c = record { live = c.requires }
+
+pub returns-in-Ok-clause-done : goal.returns-in-Ok-clause-done
+returns-in-Ok-clause-done g c =
+    let J = g.J.Journal in
+    let old = c.args.terminal.now in
+    let new = c.void_begun.new.self in
+    let entry : TermEntry = Voided c.args.begun.n in
+    let number : c.n-n.result ≡ c.args.begun.n = c.n-n.ensures in
+    let is = c.quiet.ensures ∙ ap (λ (n : ℕ). let d : Said = record { outcome = GivenUp n; sent = None } in d) number in
+    add_ok J.entries J.has_failed J.tells J.may_leave J.counts old new entry (GivenUp c.args.begun.n) c.quiet.result is
+    (grew_adding J.entries J.has_failed J.tells J.may_leave J.counts old new (entry ∷ []) _ _ _ c.in-Ok.ensures.ok c.in-Ok.ensures.in_images (c.in-Ok.ensures.still_works (λ e. cc) ∙ c.in-Ok.ensures.answers) c.in-Ok.ensures.tells c.in-Ok.ensures.counts refl (λ e. cc) (λ works. works))
+
+pub returns-in-Err-Disk-clause-done : goal.returns-in-Err-Disk-clause-done
+returns-in-Err-Disk-clause-done g c =
+    let J = g.J.Journal in
+    let old = c.args.terminal.now in
+    let new = c.void_begun.new.self in
+    let entry : TermEntry = Voided c.args.begun.n in
+    add_disk J.entries J.has_failed J.tells J.may_leave J.counts old new entry (GivenUp c.args.begun.n)
+    (broke_adding J.entries J.has_failed J.tells J.may_leave J.counts old new (entry ∷ []) _ _ _ (λ told. c.in-Err-Disk.ensures.in_doubt told (ap Err c.in-Err-Disk.field-0-is)) c.in-Err-Disk.ensures.counts (ap Err c.in-Err-Disk.field-0-is))
+
+pub returns-in-Err-Failed-clause-done : goal.returns-in-Err-Failed-clause-done
+returns-in-Err-Failed-clause-done g c = λ action heard s places armed ended before ready.
+    let failed : g.J.Journal.has_failed c.args.terminal.now ≡ true = subst (λ (f : EntryFault). IsEntryCause (g.J.Journal.has_failed c.args.terminal.now) f) c.in-Err-Failed.field-0-is c.in-Err-Failed.ensures.refused in
+    absurd (false≢true (sym ready.works ∙ failed))

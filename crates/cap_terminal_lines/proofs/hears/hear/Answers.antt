@@ -1,0 +1,65 @@
+use Rattle.std.proofs.Common.{◌≡◌, ℕ, Bool, List, [], ◌∷◌, ◌++◌, Option, Some, None, Ok, Err, refl, true, false, sym, subst, ap, ◌∙◌}
+use Rattle.std.specs.Prelude.{Result, OnOk, IsErrOf}
+use Rattle.std.proofs.lemmas.Bool.{false≢true, false_from_ne_true, cond-true, cond-false}
+use Rattle.cap_base.specs.declared.codes.Response.{Response}
+use Rattle.cap_base.specs.declared.codes.Response.TheVariants.{Appr}
+use Rattle.cap_msgs.specs.declared.message.Message.{Message}
+use Rattle.cap_msgs.specs.Received.{Received, Read}
+use Rattle.cap_entries.specs.declared.terminal.TermEntry.{TermEntry}
+use Rattle.cap_entries.specs.Entry.{is_pending}
+use Rattle.cap_sale.specs.Tokens.{BegunSale, ApprovedSale}
+use Rattle.cap_sale.specs.Refusals.{IsAuthRefusal}
+use Rattle.cap_sale.specs.declared.tokens.AuthRefused.{AuthRefused}
+use Rattle.cap_terminal.specs.Takes.{takes}
+use Rattle.cap_terminal.specs.declared.handled.Handled.{Handled}
+use Rattle.cap_terminal.specs.declared.handled.TermFault.{TermFault}
+use Rattle.cap_terminal.specs.declared.handled.TermFault.TheVariants as F
+use Rattle.cap_schedule.specs.declared.outcome.Outcome.TheVariants as O
+use Rattle.cap_world.specs.World.{Takes_answer}
+use Rattle.cap_plays.specs.declared.fault.LineFault.{LineFault}
+use Rattle.cap_plays.specs.Turns.{Turn, Decided, makes, says, on_approval, on_response, on_authorisation, on_handled, left_with, decides_on, hears, hears_it, nth}
+use Rattle.cap_plays.specs.Answers.{counted_nth, counted_nth_past}
+use Rattle.cap_terminal_lines.specs.declared.said.Said.{Said}
+use Rattle.cap_plays.specs.Texts.{IsSent, texts_in}
+use Rattle.cap_terminal_lines.specs.Acts.{LineDone, AddDone}
+use Rattle.cap_terminal_lines.specs.Hears.{says_only, refusal_of}
+use Rattle.cap_terminal_lines.proofs.Steps.{said_line}
+use Rattle.cap_terminal_lines.proofs.Quiet.{quiet_line}
+use Rattle.cap_terminal_lines.proofs.Hearing.{alone_decided, declined, only_said, heard_ok, heard_err}
+use Rattle.cap_terminal_lines.proofs.TextsAt.{text_there, text_past}
+use Rattle.cap_terminal_lines.proofs.hears.hear.Goals as goal
+
+pub returns-in-Ok-clause-done : goal.returns-in-Ok-clause-done
+returns-in-Ok-clause-done g c = λ received reads.
+    let J = g.J.Journal in
+    let e = c.in-Ok.ensures in
+    let a = c.after_answer.ensures in
+    heard_ok J.entries J.has_failed J.tells J.moment J.left_since J.may_leave J.counts g.met.J.Journal.kept c.args.terminal.now c.handle.new.self c.after_answer.new.terminal c.args.walks_out received c.in-Ok.handled c.after_answer.result
+    (e.takes received reads) e.tells (e.still_works (λ x. cc)) (λ told works. e.in_images told works) a.done a.says a.stays
+
+pub returns-in-Err-clause-done : goal.returns-in-Err-clause-done
+returns-in-Err-clause-done g c = λ received reads action heard s places armed ended before ready.
+    let J = g.J.Journal in
+    let e = c.in-Err.ensures in
+    let old = c.args.terminal.now in
+    let new = c.handle.new.self in
+    subst (λ (r : Result Said LineFault). LineDone J.entries J.has_failed J.tells J.may_leave J.counts 4 new heard s places armed ended before (makes (record { action = action; added = (takes s.settled received).added ++ (decides_on c.args.walks_out s.settled received).added; sent = [] }) (decides_on c.args.walks_out s.settled received).outcome) r) (sym c.refusal.ensures)
+    (heard_err J.entries J.has_failed J.tells J.moment J.left_since J.may_leave J.counts g.met.J.Journal.kept old new c.args.walks_out received c.in-Err.fault (e.takes received reads) e.tells e.still_works e.err action heard s places armed ended before ready)
+
+-- a refusal that the line answers is not the disk's
+refusal_works : (fault : TermFault) (P : Type 0) → ((IsErrOf {T = Handled} (Err fault) F.Disk → ⊥) → P) → OnOk (refusal_of fault) P
+refusal_works F.Disk P still = tt
+refusal_works F.Failed P still = tt
+refusal_works F.Memory P still = tt
+refusal_works (F.Unread fault) P still = still (λ x. cc)
+refusal_works F.NotForUs P still = still (λ x. cc)
+refusal_works (F.Rejected reason) P still = still (λ x. cc)
+refusal_works F.NotAwaited P still = still (λ x. cc)
+refusal_works (F.Stale m acked) P still = still (λ x. cc)
+refusal_works (F.Beyond m len) P still = still (λ x. cc)
+
+pub returns-in-Err-clause-works : goal.returns-in-Err-clause-works
+returns-in-Err-clause-works g c =
+    let J = g.J.Journal in
+    let P : Type 0 = J.has_failed c.handle.new.self ≡ J.has_failed c.args.terminal.now in
+    subst (λ (r : Result Said LineFault). OnOk r P) (sym c.refusal.ensures) (refusal_works c.in-Err.fault P (λ x. c.in-Err.ensures.still_works x))

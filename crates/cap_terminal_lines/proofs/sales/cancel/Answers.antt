@@ -1,0 +1,120 @@
+use Rattle.std.proofs.Common.{◌≡◌, ◌⊎◌, ℕ, ◌+◌, ◌^◌, ◌<◌, ◌≤◌, Bool, List, [], ◌∷◌, ◌++◌, Option, Some, None, Ok, Err, refl, true, false, sym, subst, ap, ◌∙◌, arith, cond}
+use Rattle.std.specs.Prelude.{Result, IsTrue, count_by, nat_lt, nat_le, if◌then◌else◌}
+use Rattle.std.specs.List.{list_any}
+use Rattle.std.proofs.lemmas.Bool.{false≢true, false_from_ne_true, cond-true, cond-false, lt-ltb, le-ltb, le-leb, lt-leb}
+use Rattle.cap_entries.specs.declared.terminal.TermEntry.{TermEntry}
+use Rattle.cap_entries.specs.declared.terminal.TermEntry.TheVariants.{Begin, Completed, Voided, Cancelled, Closed}
+use Rattle.cap_entries.specs.Entry.{is_any_begin, is_any_closed, is_begin, is_pending, is_completed, is_cancelled, amount_of, max_of}
+use Rattle.cap_entries.specs.Allowed.{allowed}
+use Rattle.cap_entries.specs.Floor.{floor}
+use Rattle.cap_sale.specs.Tokens.{BegunSale, ApprovedSale}
+use Rattle.cap_schedule.specs.declared.outcome.Outcome.{Outcome}
+use Rattle.cap_schedule.specs.declared.outcome.Outcome.TheVariants as O
+use Rattle.cap_terminal.specs.Causes.{IsBeginCause, MayBegin, IsCancelCause, MayCancel, IsCloseCause, MayClose}
+use Rattle.cap_terminal.specs.Does.{offline_code}
+use Rattle.cap_terminal.specs.Live.{IsLive}
+use Rattle.cap_terminal.specs.declared.faults.BeginFault.{BeginFault}
+use Rattle.cap_terminal.specs.declared.faults.BeginFault.TheVariants as B
+use Rattle.cap_terminal.specs.declared.faults.CancelFault.{CancelFault}
+use Rattle.cap_terminal.specs.declared.faults.CancelFault.TheVariants as K
+use Rattle.cap_terminal.specs.declared.faults.CloseFault.{CloseFault}
+use Rattle.cap_terminal.specs.declared.faults.CloseFault.TheVariants as P
+use Rattle.cap_world.specs.World.{TerminalState, Begins, Offline, Gives_up, Cancels, Closes}
+use Rattle.cap_plays.specs.declared.fault.LineFault.{LineFault}
+use Rattle.cap_plays.specs.declared.fault.LineFault.TheVariants.{Disk, Memory}
+use Rattle.cap_plays.specs.Turns.{Turn, worked, makes, says, adds, behind, begins, completes_offline, offline_turn, next_sale, next_period, if_cancellable}
+use Rattle.cap_journal.specs.Told.{counted}
+use Rattle.cap_terminal_lines.specs.declared.said.Said.{Said}
+use Rattle.cap_terminal_lines.specs.Acts.{LineDone}
+use Rattle.cap_terminal_lines.proofs.Steps.{Left, left_of, added_by, add_ok, add_disk, grew_adding, grew_trying, broke_adding, broke_trying, rest_adding, rest_trying, rest_of, grown_ready, rested_ready, said_line, line_behind, broken_line}
+use Rattle.cap_terminal_lines.proofs.Cancels.{may_cancel, no_sale, not_completed, already_cancelled, may_close, may_not_close}
+use Rattle.cap_terminal_lines.proofs.sales.cancel.Goals as goal
+
+pub returns-in-Ok-clause-done : goal.returns-in-Ok-clause-done
+returns-in-Ok-clause-done g c = λ heard s places armed ended before ready.
+    let J = g.J.Journal in
+    let old = c.args.terminal.now in
+    let new = c.cancel.new.self in
+    let is : J.entries old ≡ s.settled = ready.stands.end.entries_are refl in
+    let L : Turn → Type 0 = λ v. LineDone J.entries J.has_failed J.tells J.may_leave J.counts 4 new heard s places armed ended before v (Ok c.quiet.result) in
+    let e = c.in-Ok.ensures in
+    let turn : Turn = makes (adds (Cancels c.args.n) (Cancelled c.args.n)) (O.CancelledSale c.args.n) in
+    let may = may_cancel (J.entries old) c.args.n e.answers.1 e.answers.2 in
+    let grows = grew_adding J.entries J.has_failed J.tells J.may_leave J.counts old new (Cancelled c.args.n ∷ []) _ _ _ e.ok e.in_images (e.still_works (λ x. cc) ∙ e.answers.0) e.tells e.counts refl (λ x. cc) (λ works. e.answers) in
+    subst (λ (l : List TermEntry). L (if_cancellable l c.args.n turn)) is
+    (subst (λ (v : Turn). L v) (sym (cond-true (allowed (J.entries old) (Cancelled c.args.n)) _ _ may))
+    (add_ok J.entries J.has_failed J.tells J.may_leave J.counts old new (Cancelled c.args.n) (O.CancelledSale c.args.n) c.quiet.result c.quiet.ensures grows (Cancels c.args.n) heard s places armed ended before ready))
+
+pub returns-in-Err-NoSale-clause-done : goal.returns-in-Err-NoSale-clause-done
+returns-in-Err-NoSale-clause-done g c = λ heard s places armed ended before ready.
+    let J = g.J.Journal in
+    let old = c.args.terminal.now in
+    let new = c.cancel.new.self in
+    let is : J.entries old ≡ s.settled = ready.stands.end.entries_are refl in
+    let L : Turn → Type 0 = λ v. LineDone J.entries J.has_failed J.tells J.may_leave J.counts 4 new heard s places armed ended before v (Ok c.quiet-in-Err-NoSale.result) in
+    let e = c.in-Err-NoSale.ensures in
+    let rests = rest_of J.entries J.has_failed J.tells J.may_leave J.counts old new before g.met.J.Journal.kept ready.told ready.works e.tells (e.still_works (λ x. cc)) e.err (rest_adding (J.counts old) (J.counts new) _ _ _ before ready.counts_are ready.few e.counts (λ x. cc) (λ x. cc)) in
+    let again = rested_ready J.entries J.has_failed J.tells J.may_leave J.counts 4 old new heard s places armed before ready rests in
+    let turn : Turn = makes (adds (Cancels c.args.n) (Cancelled c.args.n)) (O.CancelledSale c.args.n) in
+    let cause = subst (λ (f : CancelFault). IsCancelCause (J.has_failed old) (J.entries old) c.args.n f) c.in-Err-NoSale.field-0-is e.refused in
+    let told = c.quiet-in-Err-NoSale.ensures ∙ ap (λ (k : ℕ). let d : Said = record { outcome = O.NoSale k; sent = None } in d) (cause.1) in
+    subst (λ (l : List TermEntry). L (if_cancellable l c.args.n turn)) is
+    (subst (λ (v : Turn). L v) (sym (no_sale (J.entries old) c.args.n turn c.setup.ensures.legal cause.2))
+    (said_line J.entries J.has_failed J.tells J.may_leave J.counts 4 new heard s places armed ended before (O.NoSale c.args.n) c.quiet-in-Err-NoSale.result again told))
+
+pub returns-in-Err-NotCompleted-clause-done : goal.returns-in-Err-NotCompleted-clause-done
+returns-in-Err-NotCompleted-clause-done g c = λ heard s places armed ended before ready.
+    let J = g.J.Journal in
+    let old = c.args.terminal.now in
+    let new = c.cancel.new.self in
+    let is : J.entries old ≡ s.settled = ready.stands.end.entries_are refl in
+    let L : Turn → Type 0 = λ v. LineDone J.entries J.has_failed J.tells J.may_leave J.counts 4 new heard s places armed ended before v (Ok c.quiet-in-Err-NotCompleted.result) in
+    let e = c.in-Err-NotCompleted.ensures in
+    let rests = rest_of J.entries J.has_failed J.tells J.may_leave J.counts old new before g.met.J.Journal.kept ready.told ready.works e.tells (e.still_works (λ x. cc)) e.err (rest_adding (J.counts old) (J.counts new) _ _ _ before ready.counts_are ready.few e.counts (λ x. cc) (λ x. cc)) in
+    let again = rested_ready J.entries J.has_failed J.tells J.may_leave J.counts 4 old new heard s places armed before ready rests in
+    let turn : Turn = makes (adds (Cancels c.args.n) (Cancelled c.args.n)) (O.CancelledSale c.args.n) in
+    let cause = subst (λ (f : CancelFault). IsCancelCause (J.has_failed old) (J.entries old) c.args.n f) c.in-Err-NotCompleted.field-0-is e.refused in
+    let told = c.quiet-in-Err-NotCompleted.ensures ∙ ap (λ (k : ℕ). let d : Said = record { outcome = O.NotCompleted k; sent = None } in d) (cause.1) in
+    subst (λ (l : List TermEntry). L (if_cancellable l c.args.n turn)) is
+    (subst (λ (v : Turn). L v) (sym (not_completed (J.entries old) c.args.n turn cause.2 cause.3))
+    (said_line J.entries J.has_failed J.tells J.may_leave J.counts 4 new heard s places armed ended before (O.NotCompleted c.args.n) c.quiet-in-Err-NotCompleted.result again told))
+
+pub returns-in-Err-AlreadyCancelled-clause-done : goal.returns-in-Err-AlreadyCancelled-clause-done
+returns-in-Err-AlreadyCancelled-clause-done g c = λ heard s places armed ended before ready.
+    let J = g.J.Journal in
+    let old = c.args.terminal.now in
+    let new = c.cancel.new.self in
+    let is : J.entries old ≡ s.settled = ready.stands.end.entries_are refl in
+    let L : Turn → Type 0 = λ v. LineDone J.entries J.has_failed J.tells J.may_leave J.counts 4 new heard s places armed ended before v (Ok c.quiet-in-Err-AlreadyCancelled.result) in
+    let e = c.in-Err-AlreadyCancelled.ensures in
+    let rests = rest_of J.entries J.has_failed J.tells J.may_leave J.counts old new before g.met.J.Journal.kept ready.told ready.works e.tells (e.still_works (λ x. cc)) e.err (rest_adding (J.counts old) (J.counts new) _ _ _ before ready.counts_are ready.few e.counts (λ x. cc) (λ x. cc)) in
+    let again = rested_ready J.entries J.has_failed J.tells J.may_leave J.counts 4 old new heard s places armed before ready rests in
+    let turn : Turn = makes (adds (Cancels c.args.n) (Cancelled c.args.n)) (O.CancelledSale c.args.n) in
+    let cause = subst (λ (f : CancelFault). IsCancelCause (J.has_failed old) (J.entries old) c.args.n f) c.in-Err-AlreadyCancelled.field-0-is e.refused in
+    let told = c.quiet-in-Err-AlreadyCancelled.ensures ∙ ap (λ (k : ℕ). let d : Said = record { outcome = O.AlreadyCancelled k; sent = None } in d) (cause.1) in
+    subst (λ (l : List TermEntry). L (if_cancellable l c.args.n turn)) is
+    (subst (λ (v : Turn). L v) (sym (already_cancelled (J.entries old) c.args.n turn c.setup.ensures.legal cause.2))
+    (said_line J.entries J.has_failed J.tells J.may_leave J.counts 4 new heard s places armed ended before (O.AlreadyCancelled c.args.n) c.quiet-in-Err-AlreadyCancelled.result again told))
+
+pub returns-in-Err-Disk-clause-done : goal.returns-in-Err-Disk-clause-done
+returns-in-Err-Disk-clause-done g c = λ heard s places armed ended before ready.
+    let J = g.J.Journal in
+    let old = c.args.terminal.now in
+    let new = c.cancel.new.self in
+    let is : J.entries old ≡ s.settled = ready.stands.end.entries_are refl in
+    let L : Turn → Type 0 = λ v. LineDone J.entries J.has_failed J.tells J.may_leave J.counts 4 new heard s places armed ended before v (Err Disk) in
+    let e = c.in-Err-Disk.ensures in
+    let turn : Turn = makes (adds (Cancels c.args.n) (Cancelled c.args.n)) (O.CancelledSale c.args.n) in
+    let cause = subst (λ (f : CancelFault). IsCancelCause (J.has_failed old) (J.entries old) c.args.n f) c.in-Err-Disk.field-0-is e.refused in
+    let may = may_cancel (J.entries old) c.args.n cause.1 cause.2 in
+    let breaks = broke_adding J.entries J.has_failed J.tells J.may_leave J.counts old new (Cancelled c.args.n ∷ []) _ _ _ (λ told. e.in_doubt told (ap Err c.in-Err-Disk.field-0-is)) e.counts (ap Err c.in-Err-Disk.field-0-is) in
+    subst (λ (l : List TermEntry). L (if_cancellable l c.args.n turn)) is
+    (subst (λ (v : Turn). L v) (sym (cond-true (allowed (J.entries old) (Cancelled c.args.n)) _ _ may))
+    (add_disk J.entries J.has_failed J.tells J.may_leave J.counts old new (Cancelled c.args.n) (O.CancelledSale c.args.n) breaks (Cancels c.args.n) heard s places armed ended before ready))
+
+pub returns-in-Err-Failed-clause-done : goal.returns-in-Err-Failed-clause-done
+returns-in-Err-Failed-clause-done g c = λ heard s places armed ended before ready.
+    let J = g.J.Journal in
+    let old = c.args.terminal.now in
+    let failed : J.has_failed old ≡ true = subst (λ (f : CancelFault). IsCancelCause (J.has_failed old) (J.entries old) c.args.n f) c.in-Err-Failed.field-0-is c.in-Err-Failed.ensures.refused in
+    absurd (false≢true (sym ready.works ∙ failed))

@@ -1,0 +1,88 @@
+use Rattle.std.proofs.Common.{◌≡◌, ◌⊎◌, ℕ, ◌+◌, ◌^◌, ◌<◌, ◌≤◌, Bool, List, [], ◌∷◌, ◌++◌, Option, Some, None, Ok, Err, refl, true, false, sym, subst, ap, ◌∙◌, arith, cond}
+use Rattle.std.specs.Prelude.{Result, IsTrue, count_by, nat_lt, nat_le, if◌then◌else◌}
+use Rattle.std.specs.List.{list_any}
+use Rattle.std.proofs.lemmas.Bool.{false≢true, false_from_ne_true, cond-true, cond-false, lt-ltb, le-ltb, le-leb, lt-leb}
+use Rattle.cap_entries.specs.declared.terminal.TermEntry.{TermEntry}
+use Rattle.cap_entries.specs.declared.terminal.TermEntry.TheVariants.{Begin, Completed, Voided, Cancelled, Closed}
+use Rattle.cap_entries.specs.Entry.{is_any_begin, is_any_closed, is_begin, is_pending, is_completed, is_cancelled, amount_of, max_of}
+use Rattle.cap_entries.specs.Allowed.{allowed}
+use Rattle.cap_entries.specs.Floor.{floor}
+use Rattle.cap_sale.specs.Tokens.{BegunSale, ApprovedSale}
+use Rattle.cap_schedule.specs.declared.outcome.Outcome.{Outcome}
+use Rattle.cap_schedule.specs.declared.outcome.Outcome.TheVariants as O
+use Rattle.cap_terminal.specs.Causes.{IsBeginCause, MayBegin, IsCancelCause, MayCancel, IsCloseCause, MayClose}
+use Rattle.cap_terminal.specs.Does.{offline_code}
+use Rattle.cap_terminal.specs.Live.{IsLive}
+use Rattle.cap_terminal.specs.declared.faults.BeginFault.{BeginFault}
+use Rattle.cap_terminal.specs.declared.faults.BeginFault.TheVariants as B
+use Rattle.cap_terminal.specs.declared.faults.CancelFault.{CancelFault}
+use Rattle.cap_terminal.specs.declared.faults.CancelFault.TheVariants as K
+use Rattle.cap_terminal.specs.declared.faults.CloseFault.{CloseFault}
+use Rattle.cap_terminal.specs.declared.faults.CloseFault.TheVariants as P
+use Rattle.cap_world.specs.World.{TerminalState, Begins, Offline, Gives_up, Cancels, Closes}
+use Rattle.cap_plays.specs.declared.fault.LineFault.{LineFault}
+use Rattle.cap_plays.specs.declared.fault.LineFault.TheVariants.{Disk, Memory}
+use Rattle.cap_plays.specs.Turns.{Turn, worked, makes, says, adds, behind, begins, completes_offline, offline_turn, next_sale, next_period, if_cancellable}
+use Rattle.cap_journal.specs.Told.{counted}
+use Rattle.cap_terminal_lines.specs.declared.said.Said.{Said}
+use Rattle.cap_terminal_lines.specs.Acts.{LineDone}
+use Rattle.cap_terminal_lines.proofs.Steps.{Left, left_of, added_by, add_ok, add_disk, grew_adding, grew_trying, broke_adding, broke_trying, rest_adding, rest_trying, rest_of, grown_ready, rested_ready, said_line, line_behind, broken_line}
+use Rattle.cap_terminal_lines.proofs.Cancels.{may_cancel, no_sale, not_completed, already_cancelled, may_close, may_not_close}
+use Rattle.cap_terminal_lines.proofs.sales.close.Goals as goal
+
+pub returns-in-Ok-clause-done : goal.returns-in-Ok-clause-done
+returns-in-Ok-clause-done g c = λ heard s places armed ended before ready.
+    let J = g.J.Journal in
+    let old = c.args.terminal.now in
+    let new = c.close_period.new.self in
+    let is : J.entries old ≡ s.settled = ready.stands.end.entries_are refl in
+    let L : Turn → Type 0 = λ v. LineDone J.entries J.has_failed J.tells J.may_leave J.counts 4 new heard s places armed ended before v (Ok c.quiet.result) in
+    let e = c.in-Ok.ensures in
+    let p = next_period (J.entries old) in
+    let may = may_close (J.entries old) c.setup.ensures.legal e.answers.1 in
+    let grows = grew_trying J.entries J.has_failed J.tells J.may_leave J.counts old new (Closed p ∷ []) _ _ _ _ e.ok e.in_images (e.still_works (λ x. cc) ∙ e.answers.0) e.tells e.counts refl (λ x. cc) (λ x. cc) e.answers in
+    let told = c.quiet.ensures ∙ ap (λ (k : ℕ). let d : Said = record { outcome = O.ClosedPeriod k; sent = None } in d) (e.period.0) in
+    subst (λ (l : List TermEntry). L (if allowed l (Closed (next_period l)) then makes (adds Closes (Closed (next_period l))) (O.ClosedPeriod (next_period l)) else says O.PeriodLimit)) is
+    (subst (λ (v : Turn). L v) (sym (cond-true (allowed (J.entries old) (Closed p)) _ _ may))
+    (add_ok J.entries J.has_failed J.tells J.may_leave J.counts old new (Closed p) (O.ClosedPeriod p) c.quiet.result told grows Closes heard s places armed ended before ready))
+
+pub returns-in-Err-PeriodLimit-clause-done : goal.returns-in-Err-PeriodLimit-clause-done
+returns-in-Err-PeriodLimit-clause-done g c = λ heard s places armed ended before ready.
+    let J = g.J.Journal in
+    let old = c.args.terminal.now in
+    let new = c.close_period.new.self in
+    let is : J.entries old ≡ s.settled = ready.stands.end.entries_are refl in
+    let L : Turn → Type 0 = λ v. LineDone J.entries J.has_failed J.tells J.may_leave J.counts 4 new heard s places armed ended before v (Ok c.quiet-in-Err-PeriodLimit.result) in
+    let e = c.in-Err-PeriodLimit.ensures in
+    let rests = rest_of J.entries J.has_failed J.tells J.may_leave J.counts old new before g.met.J.Journal.kept ready.told ready.works e.tells (e.still_works (λ x. cc)) e.err (rest_trying (J.counts old) (J.counts new) _ _ _ _ before ready.counts_are ready.few e.counts (λ x. cc) (λ x. cc)) in
+    let again = rested_ready J.entries J.has_failed J.tells J.may_leave J.counts 4 old new heard s places armed before ready rests in
+    let cause = subst (λ (f : CloseFault). IsCloseCause (J.has_failed old) (J.entries old) f) c.in-Err-PeriodLimit.field-0-is e.refused in
+    subst (λ (l : List TermEntry). L (if allowed l (Closed (next_period l)) then makes (adds Closes (Closed (next_period l))) (O.ClosedPeriod (next_period l)) else says O.PeriodLimit)) is
+    (subst (λ (v : Turn). L v) (sym (cond-false (allowed (J.entries old) (Closed (next_period (J.entries old)))) _ _ (may_not_close (J.entries old) cause.1)))
+    (said_line J.entries J.has_failed J.tells J.may_leave J.counts 4 new heard s places armed ended before O.PeriodLimit c.quiet-in-Err-PeriodLimit.result again c.quiet-in-Err-PeriodLimit.ensures))
+
+pub returns-in-Err-Disk-clause-done : goal.returns-in-Err-Disk-clause-done
+returns-in-Err-Disk-clause-done g c = λ heard s places armed ended before ready.
+    let J = g.J.Journal in
+    let old = c.args.terminal.now in
+    let new = c.close_period.new.self in
+    let is : J.entries old ≡ s.settled = ready.stands.end.entries_are refl in
+    let L : Turn → Type 0 = λ v. LineDone J.entries J.has_failed J.tells J.may_leave J.counts 4 new heard s places armed ended before v (Err Disk) in
+    let e = c.in-Err-Disk.ensures in
+    let p = next_period (J.entries old) in
+    let cause = subst (λ (f : CloseFault). IsCloseCause (J.has_failed old) (J.entries old) f) c.in-Err-Disk.field-0-is e.refused in
+    let may = may_close (J.entries old) c.setup.ensures.legal cause.1 in
+    let breaks = broke_trying J.entries J.has_failed J.tells J.may_leave J.counts old new (Closed p ∷ []) _ _ _ _ (λ told. e.in_doubt told (ap Err c.in-Err-Disk.field-0-is)) e.counts (ap Err c.in-Err-Disk.field-0-is) in
+    subst (λ (l : List TermEntry). L (if allowed l (Closed (next_period l)) then makes (adds Closes (Closed (next_period l))) (O.ClosedPeriod (next_period l)) else says O.PeriodLimit)) is
+    (subst (λ (v : Turn). L v) (sym (cond-true (allowed (J.entries old) (Closed p)) _ _ may))
+    (add_disk J.entries J.has_failed J.tells J.may_leave J.counts old new (Closed p) (O.ClosedPeriod p) breaks Closes heard s places armed ended before ready))
+
+pub returns-in-Err-Failed-clause-done : goal.returns-in-Err-Failed-clause-done
+returns-in-Err-Failed-clause-done g c = λ heard s places armed ended before ready.
+    let J = g.J.Journal in
+    let old = c.args.terminal.now in
+    let failed : J.has_failed old ≡ true = subst (λ (f : CloseFault). IsCloseCause (J.has_failed old) (J.entries old) f) c.in-Err-Failed.field-0-is c.in-Err-Failed.ensures.refused in
+    absurd (false≢true (sym ready.works ∙ failed))
+
+pub returns-in-Err-Memory-clause-done : goal.returns-in-Err-Memory-clause-done
+returns-in-Err-Memory-clause-done g c = λ heard s places armed ended before ready. tt

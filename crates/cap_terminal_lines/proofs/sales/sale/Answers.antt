@@ -1,0 +1,98 @@
+use Rattle.std.proofs.Common.{◌≡◌, ◌⊎◌, ℕ, ◌+◌, ◌^◌, ◌<◌, ◌≤◌, Bool, List, [], ◌∷◌, ◌++◌, Option, Some, None, Ok, Err, refl, true, false, sym, subst, ap, ◌∙◌, arith, cond}
+use Rattle.std.specs.Prelude.{Result, IsTrue, count_by, nat_lt, nat_le, if◌then◌else◌}
+use Rattle.std.specs.List.{list_any}
+use Rattle.std.proofs.lemmas.Bool.{false≢true, false_from_ne_true, cond-true, cond-false, lt-ltb, le-ltb, le-leb, lt-leb}
+use Rattle.cap_entries.specs.declared.terminal.TermEntry.{TermEntry}
+use Rattle.cap_entries.specs.declared.terminal.TermEntry.TheVariants.{Begin, Completed, Voided, Cancelled, Closed}
+use Rattle.cap_entries.specs.Entry.{is_any_begin, is_any_closed, is_begin, is_pending, is_completed, is_cancelled, amount_of, max_of}
+use Rattle.cap_entries.specs.Allowed.{allowed}
+use Rattle.cap_entries.specs.Floor.{floor}
+use Rattle.cap_sale.specs.Tokens.{BegunSale, ApprovedSale}
+use Rattle.cap_schedule.specs.declared.outcome.Outcome.{Outcome}
+use Rattle.cap_schedule.specs.declared.outcome.Outcome.TheVariants as O
+use Rattle.cap_terminal.specs.Causes.{IsBeginCause, MayBegin, IsCancelCause, MayCancel, IsCloseCause, MayClose}
+use Rattle.cap_terminal.specs.Does.{offline_code}
+use Rattle.cap_terminal.specs.Live.{IsLive}
+use Rattle.cap_terminal.specs.declared.faults.BeginFault.{BeginFault}
+use Rattle.cap_terminal.specs.declared.faults.BeginFault.TheVariants as B
+use Rattle.cap_terminal.specs.declared.faults.CancelFault.{CancelFault}
+use Rattle.cap_terminal.specs.declared.faults.CancelFault.TheVariants as K
+use Rattle.cap_terminal.specs.declared.faults.CloseFault.{CloseFault}
+use Rattle.cap_terminal.specs.declared.faults.CloseFault.TheVariants as P
+use Rattle.cap_world.specs.World.{TerminalState, Begins, Offline, Gives_up, Cancels, Closes}
+use Rattle.cap_plays.specs.declared.fault.LineFault.{LineFault}
+use Rattle.cap_plays.specs.declared.fault.LineFault.TheVariants.{Disk, Memory}
+use Rattle.cap_plays.specs.Turns.{Turn, worked, makes, says, adds, behind, begins, completes_offline, offline_turn, next_sale, next_period, if_cancellable}
+use Rattle.cap_journal.specs.Told.{counted}
+use Rattle.cap_terminal_lines.specs.declared.said.Said.{Said}
+use Rattle.cap_terminal_lines.specs.Acts.{LineDone}
+use Rattle.cap_terminal_lines.proofs.Steps.{Left, left_of, added_by, add_ok, add_disk, grew_adding, grew_trying, broke_adding, broke_trying, rest_adding, rest_trying, rest_of, grown_ready, rested_ready, said_line, line_behind, broken_line}
+use Rattle.cap_terminal_lines.proofs.Cancels.{may_cancel, no_sale, not_completed, already_cancelled, may_close, may_not_close}
+use Rattle.cap_terminal_lines.proofs.sales.sale.Goals as goal
+
+pub complete_offline-requires : goal.complete_offline-requires
+complete_offline-requires g c = c.in-Ok.ensures.live
+
+pub returns-in-Ok-clause-done : goal.returns-in-Ok-clause-done
+returns-in-Ok-clause-done g c = λ heard s places armed ended before ready.
+    let J = g.J.Journal in
+    let old = c.args.terminal.now in
+    let new = c.begin.new.self in
+    let last = c.complete_offline.new.terminal in
+    let is : J.entries old ≡ s.settled = ready.stands.end.entries_are refl in
+    let L : Turn → Type 0 = λ v. LineDone J.entries J.has_failed J.tells J.may_leave J.counts 8 last heard s places armed ended before v (c.complete_offline.result) in
+    let e = c.in-Ok.ensures in
+    let next = next_sale (J.entries old) in
+    let entry : TermEntry = Begin next c.args.amount c.args.account in
+    let grows = grew_trying J.entries J.has_failed J.tells J.may_leave J.counts old new (entry ∷ []) _ _ _ _ e.ok e.in_images (e.still_works (λ x. cc) ∙ e.answers.0) e.tells e.counts refl (λ x. cc) (λ x. cc) e.answers in
+    let few : before.calls + 8 < 2 ^ 64 = ready.few in
+    let grew = grows before ready.counts_are (omega (arith, few)) ready.told ready.works in
+    let left : Left armed before = left_of armed before ready.is_armed grew.past in
+    let action = Begins c.args.amount c.args.account in
+    let rest : ℕ → Turn = λ n. offline_turn (worked s (added_by action entry)) n in
+    let done = c.complete_offline.ensures.done heard (worked s (added_by action entry)) places left.left ended (counted 4 before) (grown_ready J.entries J.has_failed J.tells J.may_leave J.counts 4 old new heard s places armed before (added_by action entry) left ready grew) in
+    let done_next = subst (λ (n : ℕ). LineDone J.entries J.has_failed J.tells J.may_leave J.counts 4 last heard (worked s (added_by action entry)) places left.left ended (counted 4 before) (rest n) c.complete_offline.result) (ap (λ (b : BegunSale). b.n) e.begun) done in
+    subst (λ (l : List TermEntry). L (if nat_lt (count_by is_any_begin l) (max_of l) then behind (begins l c.args.amount c.args.account) (offline_turn (worked s (begins l c.args.amount c.args.account)) (next_sale l)) else says (O.Limit (max_of l)))) is
+    (subst (λ (v : Turn). L v) (sym (cond-true (nat_lt (count_by is_any_begin (J.entries old)) (max_of (J.entries old))) _ _ (lt-ltb _ _ e.answers.1)))
+    (line_behind J.entries J.has_failed J.tells J.may_leave J.counts 4 last heard s places armed ended before left action entry (rest next) c.complete_offline.result done_next))
+
+pub returns-in-Err-SaleLimit-clause-done : goal.returns-in-Err-SaleLimit-clause-done
+returns-in-Err-SaleLimit-clause-done g c = λ heard s places armed ended before ready.
+    let J = g.J.Journal in
+    let old = c.args.terminal.now in
+    let new = c.begin.new.self in
+    let is : J.entries old ≡ s.settled = ready.stands.end.entries_are refl in
+    let L : Turn → Type 0 = λ v. LineDone J.entries J.has_failed J.tells J.may_leave J.counts 8 new heard s places armed ended before v (Ok c.quiet.result) in
+    let e = c.in-Err-SaleLimit.ensures in
+    let rests = rest_of J.entries J.has_failed J.tells J.may_leave J.counts old new before g.met.J.Journal.kept ready.told ready.works e.tells (e.still_works (λ x. cc)) e.err (rest_trying (J.counts old) (J.counts new) _ _ _ _ before ready.counts_are (let f : before.calls + 8 < 2 ^ 64 = ready.few in omega (arith, f)) e.counts (λ x. cc) (λ x. cc)) in
+    let again = rested_ready J.entries J.has_failed J.tells J.may_leave J.counts 8 old new heard s places armed before ready rests in
+    let cause = subst (λ (f : BeginFault). IsBeginCause (J.has_failed old) (J.entries old) f) c.in-Err-SaleLimit.field-0-is e.refused in
+    let told = c.quiet.ensures ∙ ap (λ (k : ℕ). let d : Said = record { outcome = O.Limit k; sent = None } in d) (cause.1) in
+    subst (λ (l : List TermEntry). L (if nat_lt (count_by is_any_begin l) (max_of l) then behind (begins l c.args.amount c.args.account) (offline_turn (worked s (begins l c.args.amount c.args.account)) (next_sale l)) else says (O.Limit (max_of l)))) is
+    (subst (λ (v : Turn). L v) (sym (cond-false (nat_lt (count_by is_any_begin (J.entries old)) (max_of (J.entries old))) _ _ (le-ltb _ _ cause.2)))
+    (said_line J.entries J.has_failed J.tells J.may_leave J.counts 8 new heard s places armed ended before (O.Limit (max_of (J.entries old))) c.quiet.result again told))
+
+pub returns-in-Err-Disk-clause-done : goal.returns-in-Err-Disk-clause-done
+returns-in-Err-Disk-clause-done g c = λ heard s places armed ended before ready.
+    let J = g.J.Journal in
+    let old = c.args.terminal.now in
+    let new = c.begin.new.self in
+    let is : J.entries old ≡ s.settled = ready.stands.end.entries_are refl in
+    let L : Turn → Type 0 = λ v. LineDone J.entries J.has_failed J.tells J.may_leave J.counts 8 new heard s places armed ended before v (Err Disk) in
+    let e = c.in-Err-Disk.ensures in
+    let entry : TermEntry = Begin (next_sale (J.entries old)) c.args.amount c.args.account in
+    let may = subst (λ (f : BeginFault). IsBeginCause (J.has_failed old) (J.entries old) f) c.in-Err-Disk.field-0-is e.refused in
+    let broke = broke_trying J.entries J.has_failed J.tells J.may_leave J.counts old new (entry ∷ []) _ _ _ _ (λ told. e.in_doubt told (ap Err c.in-Err-Disk.field-0-is)) e.counts (ap Err c.in-Err-Disk.field-0-is) before ready.counts_are (let f : before.calls + 8 < 2 ^ 64 = ready.few in omega (arith, f)) ready.told ready.works in
+    subst (λ (l : List TermEntry). L (if nat_lt (count_by is_any_begin l) (max_of l) then behind (begins l c.args.amount c.args.account) (offline_turn (worked s (begins l c.args.amount c.args.account)) (next_sale l)) else says (O.Limit (max_of l)))) is
+    (subst (λ (v : Turn). L v) (sym (cond-true (nat_lt (count_by is_any_begin (J.entries old)) (max_of (J.entries old))) _ _ (lt-ltb _ _ may.1)))
+    (broken_line J.entries J.has_failed J.tells J.may_leave J.counts 8 8 old new heard s places armed ended before (Begins c.args.amount c.args.account) entry (offline_turn (worked s (begins (J.entries old) c.args.amount c.args.account)) (next_sale (J.entries old))) ready broke))
+
+pub returns-in-Err-Failed-clause-done : goal.returns-in-Err-Failed-clause-done
+returns-in-Err-Failed-clause-done g c = λ heard s places armed ended before ready.
+    let J = g.J.Journal in
+    let old = c.args.terminal.now in
+    let failed : J.has_failed old ≡ true = subst (λ (f : BeginFault). IsBeginCause (J.has_failed old) (J.entries old) f) c.in-Err-Failed.field-0-is c.in-Err-Failed.ensures.refused in
+    absurd (false≢true (sym ready.works ∙ failed))
+
+pub returns-in-Err-Memory-clause-done : goal.returns-in-Err-Memory-clause-done
+returns-in-Err-Memory-clause-done g c = λ heard s places armed ended before ready. tt

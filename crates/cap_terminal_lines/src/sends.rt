@@ -1,0 +1,172 @@
+// Messages that a terminal sends.
+ghost use Rattle.std.specs.Prelude.{◌≡◌, ◌≤◌, ◌<◌, ◌+◌, ◌^◌, nat_lt, length, take, true, None, if◌then◌else◌};
+ghost use Rattle.cap_leaf.specs.Date.{DateParts};
+ghost use Rattle.cap_sale_msgs.specs.declared.body.SaleBody.TheVariants.{AuthRequest, CancelRequest};
+ghost use Rattle.cap_batch_msgs.specs.declared.body.BatchBody.TheVariants.{Batch, Diagnostic};
+ghost use Rattle.cap_mgmt_msgs.specs.declared.body.MgmtBody.TheVariants.{Status};
+ghost use Rattle.cap_msgs.specs.declared.message.Body.TheVariants.{Sale as Of_sale, Batch as Of_batch, Management as Of_management};
+ghost use Rattle.cap_msgs.specs.Moment.{IsMoment};
+ghost use Rattle.cap_entries.specs.Entry.{is_pending, amount_of, account_of};
+ghost use Rattle.cap_entries.specs.Acked.{acked};
+ghost use Rattle.cap_entries.specs.InForce.{version_in_force, staged_from, staged_version, staged_count};
+ghost use Rattle.cap_plain.specs.Queue.{queue};
+ghost use Rattle.cap_terminal.specs.Takes.{queue_head};
+ghost use Rattle.cap_terminal.specs.Sends.{Batch_of, Ask, Ask_cancel, Diagnose, Report_status, may_be_wanted};
+ghost use Rattle.cap_schedule.specs.declared.outcome.Outcome.TheVariants as O;
+ghost use Rattle.cap_plays.specs.Turns.{says, sends, sends_head, if_cancellable};
+ghost use Rattle.cap_terminal_lines.specs.Acts.{SendDone};
+ghost use Rattle.cap_terminal_lines.specs.Sent.{SendsText};
+
+use crate::digits::message_fits;
+use crate::said::{Said, quiet};
+use cap_base::DataSet;
+use cap_entries::TermEntry;
+use cap_journal::Journal;
+use cap_leaf::DateTime;
+use cap_msgs::{Message, encode, texts_read_again};
+use cap_plays::LineFault;
+use cap_schedule::Outcome;
+use cap_terminal::{AskFault, Terminal};
+use std::alloc::Global;
+
+// Sends a message, after so many others.
+fn send(alloc: Global, message: &Message, sent: u64) -> Result<Said, LineFault>
+    requires { sent + 1 < 2 ^ 64 }
+    ensures { SendsText message.now sent result }
+{
+    texts_read_again();
+    if !message_fits(message) {
+        return Err(LineFault::Memory);
+    }
+    match encode(alloc, message) {
+        Ok(text) => Ok(Said {
+            outcome: Outcome::Sent(sent + 1),
+            sent: Some(text),
+        }),
+        Err(_) => Err(LineFault::Memory),
+    }
+}
+
+/// Each moment has its date and time.
+pub(crate) fn date_of(moment: u64)
+    requires { moment ≤ 253402300799 }
+    ensures { (created : DateParts) × IsMoment moment created }
+{
+    let _ = DateTime::utc(moment);
+}
+
+/// Sends the oldest item that is not acknowledged.
+pub(crate) fn push<J: Journal<TermEntry>>(
+    alloc: Global,
+    terminal: &Terminal<J>,
+    moment: u64,
+    sent: u64,
+) -> Result<Said, LineFault>
+    requires moment { moment ≤ 253402300799 }
+    requires sent { sent + 1 < 2 ^ 64 }
+    ensures { SendDone J.entries J.has_failed J.tells J.may_leave J.counts terminal.now moment sent (λ s created. sends_head s moment created (queue_head s.settled)) result }
+{
+    date_of(moment);
+    match terminal.head(moment, 0) {
+        Some(message) => send(alloc, &message, sent),
+        None => Ok(quiet(Outcome::NothingQueued)),
+    }
+}
+
+/// Sends the first items that are not acknowledged, as many as the limit.
+pub(crate) fn batch<J: Journal<TermEntry>>(
+    alloc: Global,
+    terminal: &Terminal<J>,
+    limit: u64,
+    moment: u64,
+    sent: u64,
+) -> Result<Said, LineFault>
+    requires low { 1 ≤ limit }
+    requires high { limit ≤ 100 }
+    requires moment { moment ≤ 253402300799 }
+    requires sent { sent + 1 < 2 ^ 64 }
+    ensures { SendDone J.entries J.has_failed J.tells J.may_leave J.counts terminal.now moment sent (λ s created. if nat_lt 0 (length (queue s.settled)) then sends s (Batch_of limit 0) moment created (acked s.settled + 1) (Of_batch (Batch (take limit (queue s.settled)))) else says O.NothingQueued) result }
+{
+    date_of(moment);
+    match terminal.batch(limit as usize, moment, 0) {
+        Ok(Some(message)) => send(alloc, &message, sent),
+        Ok(None) => Ok(quiet(Outcome::NothingQueued)),
+        Err(_) => Err(LineFault::Memory),
+    }
+}
+
+/// Asks whether a pending sale is approved.
+pub(crate) fn ask<J: Journal<TermEntry>>(
+    alloc: Global,
+    terminal: &Terminal<J>,
+    n: u64,
+    moment: u64,
+    sent: u64,
+) -> Result<Said, LineFault>
+    requires moment { moment ≤ 253402300799 }
+    requires sent { sent + 1 < 2 ^ 64 }
+    ensures { SendDone J.entries J.has_failed J.tells J.may_leave J.counts terminal.now moment sent (λ s created. if is_pending s.settled n then sends s (Ask n) moment created n (Of_sale (AuthRequest (amount_of s.settled n) (account_of s.settled n))) else says (O.NotPending n)) result }
+{
+    date_of(moment);
+    match terminal.take_pending(n) {
+        Some(begun) => {
+            let message = terminal.ask(&begun, moment);
+            begun.set_aside();
+            send(alloc, &message, sent)
+        }
+        None => Ok(quiet(Outcome::NotPending(n))),
+    }
+}
+
+/// Asks whether a completed sale may be cancelled.
+pub(crate) fn ask_cancel<J: Journal<TermEntry>>(
+    alloc: Global,
+    terminal: &Terminal<J>,
+    n: u64,
+    moment: u64,
+    sent: u64,
+) -> Result<Said, LineFault>
+    requires moment { moment ≤ 253402300799 }
+    requires sent { sent + 1 < 2 ^ 64 }
+    ensures { SendDone J.entries J.has_failed J.tells J.may_leave J.counts terminal.now moment sent (λ s created. if_cancellable s.settled n (sends s (Ask_cancel n) moment created n (Of_sale (CancelRequest (amount_of s.settled n))))) result }
+{
+    date_of(moment);
+    // its journal is a legal one
+    let _ = terminal.setup();
+    match terminal.ask_cancel(n, moment) {
+        Ok(message) => send(alloc, &message, sent),
+        Err(AskFault::NoSale(_)) => Ok(quiet(Outcome::NoSale(n))),
+        Err(AskFault::NotCompleted(_)) => Ok(quiet(Outcome::NotCompleted(n))),
+        Err(AskFault::AlreadyCancelled(_)) => Ok(quiet(Outcome::AlreadyCancelled(n))),
+    }
+}
+
+/// Asks how far the host is.
+pub(crate) fn diagnose<J: Journal<TermEntry>>(
+    alloc: Global,
+    terminal: &Terminal<J>,
+    moment: u64,
+    sent: u64,
+) -> Result<Said, LineFault>
+    requires moment { moment ≤ 253402300799 }
+    requires sent { sent + 1 < 2 ^ 64 }
+    ensures { SendDone J.entries J.has_failed J.tells J.may_leave J.counts terminal.now moment sent (λ s created. sends s Diagnose moment created 0 (Of_batch (Diagnostic (acked s.settled)))) result }
+{
+    send(alloc, &terminal.diagnose(moment), sent)
+}
+
+/// Reports the terminal's versions, and asks for a set of data.
+pub(crate) fn status<J: Journal<TermEntry>>(
+    alloc: Global,
+    terminal: &Terminal<J>,
+    wanted: DataSet,
+    moment: u64,
+    sent: u64,
+) -> Result<Said, LineFault>
+    requires wanted { may_be_wanted wanted ≡ true }
+    requires moment { moment ≤ 253402300799 }
+    requires sent { sent + 1 < 2 ^ 64 }
+    ensures { SendDone J.entries J.has_failed J.tells J.may_leave J.counts terminal.now moment sent (λ s created. sends s (Report_status wanted) moment created 0 (Of_management (Status wanted (version_in_force s.settled) (staged_version (staged_from None s.settled)) (staged_count (staged_from None s.settled))))) result }
+{
+    send(alloc, &terminal.status_report(wanted, moment), sent)
+}

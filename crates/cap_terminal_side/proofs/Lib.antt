@@ -1,0 +1,4 @@
+pub mod Sending
+pub mod Settling
+pub mod Opening
+pub mod Acting

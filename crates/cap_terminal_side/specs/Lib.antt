@@ -1,0 +1,4 @@
+pub mod Prefixes
+pub mod Keeping
+pub mod Sides
+pub mod Arriving

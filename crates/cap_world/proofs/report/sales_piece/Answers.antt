@@ -1,6 +1,0 @@
-use Rattle.cap_world.specs.Report.{sales_text}
-use Rattle.cap_world.proofs.report.sales_piece.Goals as goal
-
-pub returns : goal.returns
-unfolding sales_text
-returns c = c.format.ensures.ok

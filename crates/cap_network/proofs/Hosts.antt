@@ -1,5 +1,5 @@
 -- A line at the host of the network, what arrives at a terminal by it, and the host's opening.
-use Rattle.std.specs.Prelude.{◌≡◌, ◌⊎◌, ⊤, ℕ, suc, ◌+◌, ◌*◌, ◌^◌, ◌≤◌, ◌<◌, ◌-◌, Bool, true, false, if◌then◌else◌, nat_le, nat_lt, List, [], ◌∷◌, ◌++◌, length, take, Option, Some, None, slice_get, slice_set}
+use Rattle.std.specs.Prelude.{◌≡◌, ◌⊎◌, ℕ, suc, ◌+◌, ◌^◌, ◌≤◌, ◌<◌, Bool, true, false, if◌then◌else◌, nat_le, nat_lt, List, [], ◌∷◌, ◌++◌, length, take, Option, Some, None, slice_get, slice_set}
 use Rattle.std.proofs.Common.{Vec, Global, refl, sym, ◌∙◌, ap, subst, inl, inr, ⊎_elim, get_or, arith}
 use Rattle.std.proofs.lemmas.Bool.{cond_both}
 use Rattle.std.proofs.lemmas.Option.{slice_get_within, slice_get_past, slice_get_cases}
@@ -14,7 +14,6 @@ use Rattle.cap_entries.specs.declared.host.HostEntry.{HostEntry}
 use Rattle.cap_entries.specs.Log.{published}
 use Rattle.cap_host_ledger.specs.Ledger.{calls_for}
 use Rattle.cap_schedule.specs.declared.outcome.Outcome.{Outcome}
-use Rattle.cap_schedule.specs.declared.outcome.Outcome.TheVariants.{IsOff}
 use Rattle.cap_schedule.specs.declared.schedule.End.TheVariants.{Host, Terminal}
 use Rattle.cap_schedule.specs.declared.schedule.HostOrder.{HostOrder}
 use Rattle.cap_schedule.specs.declared.schedule.HostOrder.TheVariants as W
@@ -22,13 +21,13 @@ use Rattle.cap_schedule.specs.declared.schedule.Prefix.{Prefix}
 use Rattle.cap_schedule.specs.declared.schedule.Prefix.TheVariants.{Cut, Fail, CutAfter}
 use Rattle.cap_schedule.specs.Reader.{IsReader}
 use Rattle.cap_world.specs.World.{TerminalState, HostState}
-use Rattle.cap_plays.specs.Turns.{Scene, counted_at, places_or_none, nth, HostWork, HostTurn, host_turn_of, answers_it, answers_terminal, answers_noise}
-use Rattle.cap_plays.specs.Plays.{Doubt, no_doubt, host_reopened, Doubts, doubt_at, moment_of, arrived, places_from, MayKeep}
-use Rattle.cap_plays.specs.Corresponds.{NetworkCorresponds, HostFate, host_fate, host_whole, host_in, host_cut_after, host_stays, host_opening, answered}
+use Rattle.cap_plays.specs.Turns.{Scene, counted_at, places_or_none, nth, HostWork, HostTurn, host_turn_of, answers_it, answers_terminal}
+use Rattle.cap_plays.specs.Plays.{Doubt, no_doubt, host_reopened, Doubts, doubt_at, moment_of, arrived}
+use Rattle.cap_plays.specs.Corresponds.{HostFate, host_fate, host_whole, host_in, host_cut_after, answered}
 use Rattle.cap_plays.specs.Texts.{IsTextOf, AreTexts, texts_in, IsSent}
 use Rattle.cap_plays.specs.Answers.{counted_still, counted_length}
 use Rattle.cap_plays.specs.Session.{Acted, Reopened, ActsSo, ReopensSo}
-use Rattle.cap_plays.specs.Hosts.{host_line, host_line_fate, host_acted, host_opening_line, host_was_reopened, host_closed, host_stays_on, answers_arrive, answers_are_dropped, no_answer_arrives, nothing_arrives}
+use Rattle.cap_plays.specs.Hosts.{host_line, host_line_fate, host_acted, host_opening_line, host_was_reopened, host_closed, host_stays_on, answers_arrive, answers_are_dropped, no_answer_arrives}
 use Rattle.cap_journal.specs.File.{Has}
 use Rattle.cap_entries.specs.HostRecord.{host_reading}
 use Rattle.cap_power.specs.Standing as S
@@ -38,12 +37,11 @@ use Rattle.cap_host_lines.specs.Acts.{counted_replies}
 use Rattle.cap_host_side.specs.declared.side.Done.{Done}
 use Rattle.cap_host_side.specs.Sides.{HostStands, sent_by_any, IsGiven, Does, Passes, Reopens}
 use Rattle.cap_terminal_side.specs.declared.side.Side.{Side}
-use Rattle.cap_terminal_side.specs.Sides.{SideStands}
 use Rattle.cap_replay.specs.Passed.{passed_over}
 use Rattle.cap_network.specs.Arriving as A
 use Rattle.cap_network.specs.Ends.{most_calls, TerminalStands, HostStandsAt, EndsStand}
 use Rattle.cap_network.proofs.Surely.{stands_any}
-use Rattle.cap_network.proofs.Raising.{eight_more, fewer_calls, host_more, raised}
+use Rattle.cap_network.proofs.Raising.{fewer_calls, host_more, raised}
 
 -- a fate of the host: nothing arrives, or what its line's step sends
 abbrev pub Arrives : HostFate → HostState → HostTurn → Type 0

@@ -1,13 +1,12 @@
 -- What stands after so many lines stands after one more.
-use Rattle.std.specs.Prelude.{◌≡◌, ⊤, ℕ, ◌+◌, ◌*◌, ◌≤◌, Bool, List, slice_get}
-use Rattle.std.proofs.Common.{sym, subst, arith}
+use Rattle.std.specs.Prelude.{◌≡◌, ℕ, ◌+◌, ◌≤◌, Bool, List}
+use Rattle.std.proofs.Common.{arith}
 use Rattle.cap_disk.specs.declared.memory.MemoryDisk.{MemoryDisk}
 use Rattle.cap_entries.specs.declared.terminal.TermEntry.{TermEntry}
 use Rattle.cap_entries.specs.declared.host.HostEntry.{HostEntry}
 use Rattle.cap_world.specs.World.{TerminalState, HostState}
 use Rattle.cap_plays.specs.Turns.{Scene}
 use Rattle.cap_plays.specs.Plays.{Doubt, Doubts}
-use Rattle.cap_plays.specs.Corresponds.{NetworkCorresponds}
 use Rattle.cap_power.specs.Standing.{IsReady}
 use Rattle.cap_power.specs.declared.power.Power.{Power}
 use Rattle.cap_power.specs.declared.power.Power.TheVariants.{On, Off, Lent}

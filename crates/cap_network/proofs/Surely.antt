@@ -1,9 +1,9 @@
 -- Where nothing is tried, it does not matter how much of it the next opening may keep.
-use Rattle.std.specs.Prelude.{◌≡◌, ℕ, Bool, true, false, List, [], ◌++◌, take}
+use Rattle.std.specs.Prelude.{ℕ, Bool, true, false, List, [], ◌++◌}
 use Rattle.std.proofs.Common.{refl, sym, ◌∙◌, ap, subst, inl}
 use Rattle.std.proofs.Math.Seq.{take-nil}
 use Rattle.cap_disk.specs.declared.memory.MemoryDisk.{MemoryDisk}
-use Rattle.cap_plays.specs.Plays.{Doubt, MayKeep}
+use Rattle.cap_plays.specs.Plays.{Doubt}
 use Rattle.cap_plays.specs.Corresponds.{Holds, EndCorresponds}
 use Rattle.cap_power.specs.Images.{images_of}
 use Rattle.cap_power.specs.Standing.{Stands}

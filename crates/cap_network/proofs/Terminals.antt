@@ -1,7 +1,7 @@
 -- A line at one terminal of the network, and its opening.
-use Rattle.std.specs.Prelude.{◌≡◌, ⊤, ℕ, zero, suc, ◌+◌, ◌*◌, ◌^◌, ◌≤◌, ◌<◌, Bool, true, false, List, [], ◌∷◌, ◌++◌, length, take, Option, Some, None, slice_get, slice_set}
+use Rattle.std.specs.Prelude.{◌≡◌, ℕ, zero, suc, ◌+◌, ◌^◌, ◌≤◌, ◌<◌, Bool, true, false, List, [], ◌∷◌, ◌++◌, length, take, Option, Some, None, slice_get, slice_set}
 use Rattle.std.proofs.Common.{refl, sym, ◌∙◌, ap, subst, inl, ⊎_elim, arith}
-use Rattle.std.proofs.lemmas.Option.{none-some, slice_get_within, slice_get_past, slice_get_cases}
+use Rattle.std.proofs.lemmas.Option.{slice_get_within, slice_get_past, slice_get_cases}
 use Rattle.std.proofs.lemmas.Bool.{cond-false}
 use Rattle.cap_leaf.specs.Date.{DateParts}
 use Rattle.cap_msgs.specs.Moment.{IsMoment}
@@ -12,8 +12,8 @@ use Rattle.cap_entries.specs.declared.host.HostEntry.{HostEntry}
 use Rattle.cap_entries.specs.TermRecord.{term_reading}
 use Rattle.cap_journal.specs.File.{Has}
 use Rattle.cap_schedule.specs.declared.outcome.Outcome.{Outcome}
-use Rattle.cap_schedule.specs.declared.outcome.Outcome.TheVariants.{IsOff, WasCut, Restarted}
-use Rattle.cap_schedule.specs.declared.schedule.End.TheVariants.{Host, Terminal}
+use Rattle.cap_schedule.specs.declared.outcome.Outcome.TheVariants.{IsOff, Restarted}
+use Rattle.cap_schedule.specs.declared.schedule.End.TheVariants.{Terminal}
 use Rattle.cap_schedule.specs.declared.schedule.Order.{Order}
 use Rattle.cap_schedule.specs.declared.schedule.Order.TheVariants as T
 use Rattle.cap_schedule.specs.declared.schedule.Prefix.{Prefix}
@@ -23,7 +23,7 @@ use Rattle.cap_schedule.specs.Reader.{IsReader}
 use Rattle.cap_schedule.specs.Nobodys.{IsNoiseOfOrder}
 use Rattle.cap_world.specs.World.{TerminalState, HostState}
 use Rattle.cap_plays.specs.Turns.{Scene, world_of, counted_at}
-use Rattle.cap_plays.specs.Plays.{Doubt, no_doubt, reopened, Doubts, doubt_at, with_doubt, moment_of, terminal_is_on, is_on, MayKeep, Fate, fate, fate_of, fate_whole, opens, opening_plan, plan_of_opening, terminal_plan, terminal_off, fails_first}
+use Rattle.cap_plays.specs.Plays.{Doubt, no_doubt, reopened, Doubts, doubt_at, with_doubt, moment_of, terminal_is_on, is_on, Fate, fate, fate_of, fate_whole, opens, opening_plan, plan_of_opening, terminal_plan, terminal_off, fails_first}
 use Rattle.cap_plays.specs.Session.{IsFate, Acted, Reopened, ActsSo, ReopensSo}
 use Rattle.cap_plays.specs.Laws.{InRange, IsReached}
 use Rattle.cap_plays.specs.SetUps.{reached_set_up, noise_is_not_ours}

@@ -1,5 +1,5 @@
 -- What is known of the ends as they are set up, and of the disks that they leave.
-use Rattle.std.specs.Prelude.{◌≡◌, ℕ, Bool, true, List, [], ◌++◌, length, Option, Some, slice_get}
+use Rattle.std.specs.Prelude.{◌≡◌, ℕ, Bool, true, List, [], length, Some, slice_get}
 use Rattle.cap_disk.specs.declared.memory.MemoryDisk.{MemoryDisk}
 use Rattle.cap_entries.specs.Settings.{TerminalSettings}
 use Rattle.cap_entries.specs.declared.terminal.TermEntry.{TermEntry}

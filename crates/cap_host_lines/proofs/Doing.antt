@@ -1,5 +1,5 @@
 -- What a line of the host says follows from what its call left.
-use Rattle.std.proofs.Common.{◌≡◌, ◌⊎◌, ⊎_elim, ℕ, ◌+◌, ◌-◌, ◌^◌, ◌≤◌, ◌<◌, Bool, true, false, List, [], ◌∷◌, ◌++◌, length, take, Option, Some, None, Ok, Err, refl, sym, ◌∙◌, ap, subst, inl, inr, append-nil, arith, IsTrue, leb-true}
+use Rattle.std.proofs.Common.{◌≡◌, ℕ, ◌+◌, ◌-◌, ◌≤◌, ◌<◌, Bool, true, false, List, [], ◌∷◌, ◌++◌, length, Option, Some, None, Ok, Err, refl, sym, ◌∙◌, ap, subst, append-nil, arith, leb-true}
 use Rattle.std.specs.Prelude.{Result, IsSome, IsSomeAnd, nat_le, nat_lt, slice_get, if◌then◌else◌}
 use Rattle.std.proofs.lemmas.Bool.{cond-true, cond-false, le-leb, lt-leb, lt-ltb, le-ltb}
 use Rattle.std.proofs.lemmas.Bool.Decides.{nat_tests}
@@ -19,7 +19,7 @@ use Rattle.cap_entries.specs.declared.host.HostEntry.TheVariants.{Published}
 use Rattle.cap_entries.specs.HostRecord.{host_reading}
 use Rattle.cap_entries.specs.Log.{published}
 use Rattle.cap_host_ledger.specs.Ledger.{calls_for}
-use Rattle.cap_host_answers.specs.Received.{answer_received, reply_to, place_named}
+use Rattle.cap_host_answers.specs.Received.{answer_received, place_named}
 use Rattle.cap_host.specs.declared.host.Host.{Host}
 use Rattle.cap_host.specs.declared.publishing.PublishFault.{PublishFault}
 use Rattle.cap_host.specs.declared.publishing.PublishFault.TheVariants as P
@@ -32,17 +32,17 @@ use Rattle.cap_msgs.specs.Trees.{body_kind}
 use Rattle.cap_world.specs.World.{TerminalState, HostState, Answers, Answers_foreign, Publishes}
 use Rattle.cap_plays.specs.declared.fault.LineFault.{LineFault}
 use Rattle.cap_plays.specs.declared.fault.LineFault.TheVariants.{Disk, Memory}
-use Rattle.cap_plays.specs.Turns.{reason_of, Scene, counted_at, nth, HostWork, HostTurn, host_says, host_turn_of, answers_terminal, answers_it, answered_as, replies_with}
-use Rattle.cap_plays.specs.Plays.{Doubt, no_doubt, in_doubt, host_interrupted}
-use Rattle.cap_plays.specs.Corresponds.{Holds, EachHas, EachHasEither, EndCorresponds, HostFate, host_stays, host_whole, host_in}
+use Rattle.cap_plays.specs.Turns.{Scene, counted_at, HostWork, HostTurn, host_says, host_turn_of, answers_terminal, answers_it, answered_as, replies_with}
+use Rattle.cap_plays.specs.Plays.{no_doubt, in_doubt, host_interrupted}
+use Rattle.cap_plays.specs.Corresponds.{Holds, EachHas, EachHasEither, HostFate, host_stays, host_whole}
 use Rattle.cap_plays.specs.Holding.{holds_settled, end_added, end_broken}
 use Rattle.cap_host_lines.specs.declared.said.HostSaid.{HostSaid}
 use Rattle.cap_host_lines.specs.declared.answer.Answer.{Answer}
-use Rattle.cap_plays.specs.Texts.{IsTextOf, IsSent}
-use Rattle.cap_host_lines.specs.Texts.{IsAnswer, IsAnswered, outcome_of, reply_of}
+use Rattle.cap_plays.specs.Texts.{IsSent}
+use Rattle.cap_host_lines.specs.Texts.{IsAnswered, outcome_of, reply_of}
 use Rattle.cap_host_lines.specs.Says.{said_counted, said_dropped, said_published}
 use Rattle.cap_plays.specs.Armed.{IsArmed, GoesOn}
-use Rattle.cap_host_lines.specs.Acts.{host_armed, counted_replies, sent_by, sent_of, counts_of, images_of, IsWorking, IsReady, IsDone, IsBroken, LineDone, Acted, Grew, Broke, PublishedBy, HeardBy}
+use Rattle.cap_host_lines.specs.Acts.{host_armed, sent_by, sent_of, images_of, IsReady, IsDone, IsBroken, LineDone, Acted, Grew, Broke, PublishedBy, HeardBy}
 use Rattle.cap_host_lines.proofs.Steps.{few_calls}
 
 -- an armed call that did not come lies beyond the calls that were made; one that came is one of them

@@ -1,5 +1,5 @@
 -- What reading leaves of a host.
-use Rattle.std.proofs.Common.{◌≡◌, ℕ, Bool, true, false, List, Option, Some, None, Ok, Err, refl, sym, ◌∙◌, subst, IsTrue}
+use Rattle.std.proofs.Common.{Bool, true, Option, None, Ok, Err, refl, sym, ◌∙◌, subst, IsTrue}
 use Rattle.std.specs.Prelude.{Result, IsOk, OnOk, IsErrOf}
 use Rattle.std.proofs.lemmas.Bool.{false≢true}
 use Rattle.cap_disk.specs.Disk.{Counts, StaysCounted}
@@ -10,11 +10,10 @@ use Rattle.cap_entries.specs.HostRecord.{host_reading}
 use Rattle.cap_host_ledger.specs.declared.fault.HostFault.{HostFault}
 use Rattle.cap_host_ledger.specs.declared.fault.HostFault.TheVariants.{Disk}
 use Rattle.cap_host.specs.declared.host.Host.{Host}
-use Rattle.cap_host.specs.Host.{entries_of, has_failed, tells, fault_of, Reads}
-use Rattle.cap_world.specs.World.{HostState}
+use Rattle.cap_host.specs.Host.{entries_of, fault_of, Reads}
 use Rattle.cap_plays.specs.Plays.{no_doubt}
 use Rattle.cap_plays.specs.Holding.{end_fewer}
-use Rattle.cap_host_lines.specs.Acts.{counts_of, images_of, IsReady}
+use Rattle.cap_host_lines.specs.Acts.{counts_of, images_of}
 use Rattle.cap_host_lines.specs.Logs.{Keeps}
 
 no_disk : {T : Type 0} (v : T) → IsErrOf {E = HostFault} (Ok v) Disk → ⊥

@@ -1,13 +1,13 @@
 -- What is read of a log for a report is the log's part of it.
-use Rattle.std.proofs.Common.{◌≡◌, ◌⊎◌, ⊎_elim, ℕ, zero, suc, ◌+◌, ◌*◌, ◌<◌, ◌≤◌, Bool, true, false, cond, not, ◌&&◌, ◌||◌, List, [], ◌∷◌, ◌++◌, length, get_or, drop, Option, Some, None, refl, sym, ◌∙◌, ap, subst, append_assoc, append-nil, arith, eq-eqb, eqb-true, leb-true, IsTrue}
+use Rattle.std.proofs.Common.{◌≡◌, ⊎_elim, ℕ, zero, suc, ◌+◌, ◌<◌, ◌≤◌, Bool, true, false, cond, not, ◌||◌, List, [], ◌∷◌, ◌++◌, length, drop, Option, Some, None, refl, sym, ◌∙◌, ap, append_assoc, append-nil, arith, eq-eqb, eqb-true, leb-true}
 use Rattle.std.specs.Prelude.{◌==◌, nat_le, slice_get, filter, count_by}
-use Rattle.std.specs.List.{list_any, sum_by}
-use Rattle.std.proofs.lemmas.Bool.{false≢true, cond-true, cond-false, cases_Bool, and_parts, or_cases, or_left, or_right, le-leb, lt-leb}
+use Rattle.std.specs.List.{list_any}
+use Rattle.std.proofs.lemmas.Bool.{false≢true, cond-true, cases_Bool, and_parts, or_cases, or_left, or_right}
 use Rattle.std.proofs.Math.Bool.{or-false}
 use Rattle.std.proofs.lemmas.Bool.Decides.{nat_tests}
 use Rattle.std.proofs.lemmas.List.{drop_more, drop_all}
 use Rattle.std.proofs.lemmas.List.Folds.{list_any-append}
-use Rattle.std.proofs.lemmas.List.Sums.{sum_by-cons, sum_by-append, sum_by_push, count_by-le-length, length-filter}
+use Rattle.std.proofs.lemmas.List.Sums.{sum_by-cons, sum_by_push, count_by-le-length, length-filter}
 use Rattle.std.proofs.lemmas.Option.{none-some, same_Some, slice_get_within, get_or_from_slice_get, slice_get_cases}
 use Rattle.cap_base.specs.declared.item.Item.{Item}
 use Rattle.cap_base.specs.declared.item.Item.TheVariants.{Sale, Void, Cancel, Close}
@@ -20,7 +20,7 @@ use Rattle.cap_host.specs.Capture.{line_of}
 use Rattle.cap_host_index.specs.CapturedLaws.{along}
 use Rattle.cap_plays.specs.Report.{amounts, host_line, period_text, period_lines}
 use Rattle.cap_entries.specs.declared.host.HostEntry.{HostEntry}
-use Rattle.cap_entries.specs.HostAllowed.{LegalHost, all_host_allowed}
+use Rattle.cap_entries.specs.HostAllowed.{LegalHost}
 use Rattle.cap_entries.specs.Log.{log}
 use Rattle.cap_entries.specs.LogsFit.{logs_fit}
 use Rattle.cap_host_lines.specs.Logs.{periods_text, log_text}

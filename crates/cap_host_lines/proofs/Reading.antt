@@ -1,13 +1,9 @@
 -- What is known of a reply by reading its text.
-use Rattle.std.proofs.Common.{◌≡◌, ℕ, List, Option, Some, None, Ok, Err, refl, sym, ◌∙◌, ap, subst}
-use Rattle.std.specs.Prelude.{Result, IfOk, IfErr, OnOk, IsSomeAnd}
+use Rattle.std.proofs.Common.{◌≡◌, ℕ, List, Option, Some, None, Ok, Err, sym, ◌∙◌, subst}
+use Rattle.std.specs.Prelude.{Result, IfOk, OnOk, IsSomeAnd}
 use Rattle.cap_disk.specs.Disk.{Counts}
 use Rattle.cap_journal.specs.declared.journal.Journal.{Ghosts}
-use Rattle.cap_sale_msgs.specs.declared.body.SaleBody.TheVariants.{AuthRequest, AuthAnswer, Completion, CompletionAnswer, CancelRequest, CancelAnswer, CancelAdvice, CancelAdviceAnswer}
-use Rattle.cap_batch_msgs.specs.declared.body.BatchBody.TheVariants.{Reconcile, ReconcileAnswer, Batch, BatchAnswer, Diagnostic, DiagnosticAnswer, Rejection}
-use Rattle.cap_mgmt_msgs.specs.declared.body.MgmtBody.TheVariants.{Status, Plan, Part, ManagementRejection}
 use Rattle.cap_msgs.specs.declared.message.Body.{Body}
-use Rattle.cap_msgs.specs.declared.message.Body.TheVariants.{Sale as Of_sale, Batch as Of_batch, Management as Of_management}
 use Rattle.cap_msgs.specs.declared.message.Message.{Message}
 use Rattle.cap_msgs.specs.Ranges.{IsSpellable}
 use Rattle.cap_msgs.specs.Received.{Received, Read}
@@ -25,9 +21,8 @@ use Rattle.cap_plays.specs.declared.fault.LineFault.{LineFault}
 use Rattle.cap_plays.specs.declared.fault.LineFault.TheVariants.{Disk, Memory}
 use Rattle.cap_host_lines.specs.declared.answer.Answer.{Answer}
 use Rattle.cap_host_lines.specs.Texts.{IsAnswered, IsMade, IsRead}
-use Rattle.cap_host_lines.specs.declared.said.HostSaid.{HostSaid}
 use Rattle.cap_host_lines.specs.Says.{ReadAs, said_counted, said_dropped}
-use Rattle.cap_host_lines.specs.Acts.{Broke, ChangedBy, HeardBy}
+use Rattle.cap_host_lines.specs.Acts.{ChangedBy, HeardBy}
 
 -- the text reads as one message
 pub is_read : (result : Result (Option Answer) LineFault) (bytes : List ℕ) (message : Message) → Reads bytes (Read message)

@@ -1,5 +1,5 @@
 -- Room for one entry of any size.
-use Rattle.std.proofs.Common.{◌≡◌, ℕ, ◌-◌, ◌≤◌, Bool, true, false, [], ◌∷◌, Option, Some, None, refl, arith, lt-ltb}
+use Rattle.std.proofs.Common.{◌≡◌, ℕ, ◌-◌, ◌≤◌, Bool, true, false, [], ◌∷◌, Some, None, refl, arith, lt-ltb}
 use Rattle.std.specs.Prelude.{◌&&◌, nat_le, nat_lt, if◌then◌else◌, option_and_then, IsSome}
 use Rattle.cap_journal.specs.declared.spare.Spare.{Spare}
 use Rattle.cap_journal.specs.Spare.{less, Suffices}

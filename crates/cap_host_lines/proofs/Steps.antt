@@ -1,19 +1,16 @@
 -- What a line of the host has done follows from what its call did.
-use Rattle.std.proofs.Common.{◌≡◌, ◌⊎◌, ⊎_elim, ℕ, ◌+◌, ◌-◌, ◌^◌, ◌≤◌, ◌<◌, Bool, true, false, List, [], ◌∷◌, ◌++◌, length, Option, Some, None, Ok, Err, refl, sym, ◌∙◌, ap, subst, inl, inr, append-nil, arith, IsTrue, leb-true}
-use Rattle.std.specs.Prelude.{Result, IsOk, IsErrOf, IfOk, IfErr, OnOk, IsSome, IsSomeAnd, nat_le}
+use Rattle.std.proofs.Common.{◌≡◌, ⊎_elim, ℕ, ◌+◌, ◌^◌, ◌≤◌, ◌<◌, Bool, false, List, [], ◌∷◌, length, Option, Some, None, Ok, Err, refl, sym, ◌∙◌, ap, subst, inl, append-nil, arith, IsTrue}
+use Rattle.std.specs.Prelude.{Result, IsOk, IsErrOf, IfOk, IfErr, OnOk, IsSomeAnd}
 use Rattle.std.proofs.lemmas.Bool.{false≢true}
 use Rattle.cap_base.specs.declared.parameters.Row.{Row}
 use Rattle.cap_disk.specs.Disk.{Counts, StaysCounted}
 use Rattle.cap_journal.specs.declared.journal.Journal.{Ghosts}
-use Rattle.cap_journal.specs.File.{Has, HasEither}
-use Rattle.cap_journal.specs.Told.{StopsWithin, StopsAt, counted}
-use Rattle.cap_journal.specs.Seen.{CountsTrying, IsTrying, EveryImageHas}
+use Rattle.cap_journal.specs.Told.{StopsWithin, counted}
+use Rattle.cap_journal.specs.Seen.{CountsTrying, IsTrying}
 use Rattle.cap_entries.specs.declared.host.HostEntry.{HostEntry}
 use Rattle.cap_entries.specs.declared.host.HostEntry.TheVariants.{Published}
-use Rattle.cap_entries.specs.HostRecord.{host_reading}
 use Rattle.cap_entries.specs.Log.{published}
 use Rattle.cap_host_ledger.specs.Ledger.{calls_for}
-use Rattle.cap_host_ledger.specs.Ledger as ledger
 use Rattle.cap_host_ledger.specs.declared.fault.HostFault.{HostFault}
 use Rattle.cap_host_ledger.specs.declared.fault.HostFault.TheVariants as fault
 use Rattle.cap_host.specs.declared.host.Host.{Host}
@@ -22,7 +19,7 @@ use Rattle.cap_host.specs.declared.publishing.PublishFault.TheVariants as P
 use Rattle.cap_host.specs.Host.{journal_of, entries_of, has_failed, tells, fault_of, IsInAll, Reads, Adds, ending}
 use Rattle.cap_host.specs.Publishing.{MayPublish, IsPublishCause, publish_fault_of}
 use Rattle.cap_host_lines.specs.Says.{said_published}
-use Rattle.cap_host_lines.specs.Acts.{counts_of, images_of, IsWorking, Grew, Broke, ChangedBy, PublishedBy}
+use Rattle.cap_host_lines.specs.Acts.{counts_of, images_of, IsWorking, Grew, ChangedBy, PublishedBy}
 
 pub few_calls : {E : Type 0} (added : List E) → calls_for added ≤ 4
 few_calls [] = omega arith

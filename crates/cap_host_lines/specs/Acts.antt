@@ -1,10 +1,10 @@
 -- What a line of a schedule makes of a host over any journal, in the words of the model.
-use Rattle.std.specs.Prelude.{◌≡◌, ⊤, ℕ, ◌+◌, ◌^◌, ◌≤◌, ◌<◌, Bool, true, false, if◌then◌else◌, List, [], ◌∷◌, ◌++◌, length, slice_get, Option, Some, None, Result, Ok, Err, IsTrue, IsSome}
+use Rattle.std.specs.Prelude.{◌≡◌, ⊤, ℕ, ◌+◌, ◌^◌, ◌≤◌, ◌<◌, true, false, if◌then◌else◌, List, [], ◌∷◌, ◌++◌, length, slice_get, Option, Some, None, Result, Ok, Err, IsTrue, IsSome}
 use Rattle.cap_base.specs.declared.parameters.Row.{Row}
 use Rattle.cap_disk.specs.Disk.{Counts}
 use Rattle.cap_journal.specs.declared.journal.Journal.{Ghosts}
 use Rattle.cap_journal.specs.File.{Has}
-use Rattle.cap_journal.specs.Told.{StopsAt, StopsWithin, counted}
+use Rattle.cap_journal.specs.Told.{StopsWithin, counted}
 use Rattle.cap_leaf.specs.Date.{DateParts}
 use Rattle.cap_msgs.specs.declared.message.Message.{Message}
 use Rattle.cap_msgs.specs.Received.{Received}

@@ -1,5 +1,5 @@
 -- A host's part of a report: what was read of a log so far, and what reading leaves of the host.
-use Rattle.std.specs.Prelude.{◌≡◌, ℕ, zero, suc, Option, Some, None, List, [], ◌++◌}
+use Rattle.std.specs.Prelude.{◌≡◌, ℕ, zero, suc, Option, List, [], ◌++◌}
 use Rattle.cap_disk.specs.Disk.{Counts}
 use Rattle.cap_journal.specs.declared.journal.Journal.{Ghosts}
 use Rattle.cap_base.specs.declared.item.Item.{Item}

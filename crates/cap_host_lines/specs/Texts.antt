@@ -1,5 +1,5 @@
 -- What is told of a reply.
-use Rattle.std.specs.Prelude.{◌≡◌, ⊤, ℕ, List, [], ◌∷◌, Option, Some, None}
+use Rattle.std.specs.Prelude.{◌≡◌, ⊤, ℕ, List, Option, Some, None}
 use Rattle.std.proofs.Common.{Vec, Global}
 use Rattle.cap_leaf.specs.Date.{DateParts}
 use Rattle.cap_msgs.specs.declared.message.Body.{Body}

@@ -1,7 +1,7 @@
 -- What calls of a disk in memory leave.
-use Rattle.std.proofs.Common.{◌≡◌, ◌⊎◌, inl, inr, ℕ, Bool, true, false, List, Option, Some, None, refl, sym, ◌∙◌, ap, subst, arith}
+use Rattle.std.proofs.Common.{◌≡◌, ◌⊎◌, inl, inr, ℕ, Bool, true, false, List, Option, Some, None, refl, sym, ◌∙◌, subst, arith}
 use Rattle.std.specs.Prelude.{Result, Ok, Err, IfOk, IfErr, OnOk, IsErrOf, MatchResult}
-use Rattle.std.proofs.lemmas.Option.{same_Some, none-some}
+use Rattle.std.proofs.lemmas.Option.{none-some}
 use Rattle.cap_disk.specs.Disk.{Contents, Counts, MayLeave, StaysCounted}
 use Rattle.cap_disk.specs.History.{start, shows_one_after}
 use Rattle.cap_disk.specs.MemoryDisk.{contents_of, history_of, told_of, restart_image}

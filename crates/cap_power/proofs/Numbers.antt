@@ -1,10 +1,10 @@
 -- The two numbers of a disk in memory, once a call of it is armed.
-use Rattle.std.proofs.Common.{◌≡◌, ◌⊎◌, ℕ, ◌+◌, ◌≤◌, ◌<◌, Bool, true, false, Option, Some, None, refl, sym, ◌∙◌, ap, subst, arith}
+use Rattle.std.proofs.Common.{◌≡◌, ℕ, ◌+◌, ◌≤◌, Bool, true, false, Option, Some, None, refl, sym, ◌∙◌, ap, subst, arith}
 use Rattle.std.specs.Prelude.{nat_lt, nat_le, if◌then◌else◌}
 use Rattle.std.proofs.lemmas.Option.{same_Some, none-some}
 use Rattle.std.proofs.lemmas.Bool.Decides.{nat_tests}
 use Rattle.cap_disk.specs.Disk.{Counts}
-use Rattle.cap_disk.specs.Switch.{stop_of, numbers, numbers_on}
+use Rattle.cap_disk.specs.Switch.{stop_of, numbers_on}
 use Rattle.cap_disk.specs.MemoryDisk.{told_of, armed}
 use Rattle.cap_disk.specs.declared.arming.Fill.{Fill}
 use Rattle.cap_disk.specs.declared.arming.Counted.{Counted}

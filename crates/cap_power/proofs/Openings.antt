@@ -1,23 +1,22 @@
 -- What came of an opening, as a fate of the model.
-use Rattle.std.proofs.Common.{◌≡◌, ℕ, Bool, true, false, List, [], ◌++◌, take, Option, Some, None, refl, sym, ◌∙◌, ap, subst, inl}
-use Rattle.std.specs.Prelude.{nat_le, ◌==◌}
-use Rattle.std.proofs.lemmas.Bool.{cond-true, cond-false}
+use Rattle.std.proofs.Common.{◌≡◌, ℕ, Bool, true, false, List, [], ◌++◌, take, Some, refl, sym, ◌∙◌, subst, inl}
+use Rattle.std.specs.Prelude.{nat_le}
+use Rattle.std.proofs.lemmas.Bool.{cond-false}
 use Rattle.std.proofs.lemmas.Option.{same_Some}
 use Rattle.cap_disk.specs.declared.arming.Fill.{Fill}
 use Rattle.cap_disk.specs.declared.memory.MemoryDisk.{MemoryDisk}
 use Rattle.cap_journal.specs.File.{Reading, Has}
 use Rattle.cap_schedule.specs.declared.outcome.Outcome.{Outcome}
 use Rattle.cap_schedule.specs.declared.outcome.Outcome.TheVariants.{WasCut, DiskFailed, Restarted}
-use Rattle.cap_schedule.specs.declared.schedule.Prefix.{Prefix}
-use Rattle.cap_schedule.specs.declared.schedule.Prefix.TheVariants.{Cut, Fail, CutAfter}
+use Rattle.cap_schedule.specs.declared.schedule.Prefix.TheVariants.{Cut, Fail}
 use Rattle.cap_plays.specs.Plays.{Doubt, no_doubt, MayKeep}
-use Rattle.cap_plays.specs.Corresponds.{Holds, EachHas, HasOne, EndCorresponds}
-use Rattle.cap_plays.specs.Holding.{end_is_off, end_fewer, end_cut, end_opened, end_opening_broken, end_opening_failed}
-use Rattle.cap_power.specs.Images.{images_of, NoOthers, IsRestarted, IsLeftBy, no_others_restarted, no_others_left}
+use Rattle.cap_plays.specs.Corresponds.{Holds, EachHas, HasOne}
+use Rattle.cap_plays.specs.Holding.{end_is_off, end_opened, end_opening_broken, end_opening_failed}
+use Rattle.cap_power.specs.Images.{images_of}
 use Rattle.cap_power.specs.Standing.{Stands, IsReady, IsOnWith, IsOffWithOne}
 use Rattle.cap_power.specs.Fates.{Fate, opened, not_opened, opening, MeetsFate, Opens}
 use Rattle.cap_power.specs.declared.power.Power.{Power}
-use Rattle.cap_power.specs.declared.power.Power.TheVariants.{On, Off, Lent}
+use Rattle.cap_power.specs.declared.power.Power.TheVariants.{Off}
 use Rattle.cap_power.specs.declared.power.Settled.{Settled}
 
 -- an image reads one way

@@ -1,7 +1,7 @@
 -- The images that a crash may leave of a disk in memory.
-use Rattle.std.specs.Prelude.{◌≡◌, ℕ, ◌≤◌, Bool, true, false, List, Option, Some, None}
+use Rattle.std.specs.Prelude.{◌≡◌, ℕ, ◌≤◌, Bool, true, false, List, Some, None}
 use Rattle.std.proofs.Common.{ap, subst, sym}
-use Rattle.cap_disk.specs.Disk.{Contents, Counts, MayLeave, LeavesOnly}
+use Rattle.cap_disk.specs.Disk.{Contents, MayLeave, LeavesOnly}
 use Rattle.cap_disk.specs.History.{start, after, left_now}
 use Rattle.cap_disk.specs.Recorded.{History}
 use Rattle.cap_disk.specs.MemoryDisk.{contents_of, history_of, moment_of, left_of, told_of}

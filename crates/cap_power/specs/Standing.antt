@@ -1,5 +1,5 @@
 -- How an end with its power stands to an end of the model.
-use Rattle.std.specs.Prelude.{◌≡◌, ℕ, Bool, true, false, List, [], Option, None, ⊤}
+use Rattle.std.specs.Prelude.{◌≡◌, ℕ, Bool, true, false, List, [], None, ⊤}
 use Rattle.cap_disk.specs.MemoryDisk.{told_of}
 use Rattle.cap_disk.specs.declared.memory.MemoryDisk.{MemoryDisk}
 use Rattle.cap_plays.specs.Plays.{Doubt}

@@ -1,14 +1,14 @@
 -- Which sales may be cancelled, and which periods closed, in a legal journal.
-use Rattle.std.proofs.Common.{◌≡◌, ◌⊎◌, ⊎_elim, ℕ, ◌+◌, ◌≤◌, ◌<◌, Bool, true, false, not, ◌&&◌, List, [], ◌∷◌, ◌++◌, refl, sym, ◌∙◌, ap, subst, arith, eq-eqb, eqb-true}
+use Rattle.std.proofs.Common.{◌≡◌, ⊎_elim, ℕ, ◌≤◌, ◌<◌, true, false, not, List, [], ◌∷◌, ◌++◌, refl, sym, ◌∙◌, ap, subst, arith, eq-eqb, eqb-true}
 use Rattle.std.specs.Prelude.{count_by, ◌==◌, nat_le}
 use Rattle.std.specs.List.{list_any}
-use Rattle.std.proofs.lemmas.Bool.{cond-true, cond-false, false≢true, false_from_ne_true, and_parts, and_from, or_cases, or_left, or_right, le-leb, lt-leb}
+use Rattle.std.proofs.lemmas.Bool.{cond-true, cond-false, false≢true, false_from_ne_true, and_parts, and_from, or_cases, or_left, le-leb, lt-leb}
 use Rattle.std.proofs.Math.Bool.{or-false}
 use Rattle.std.proofs.lemmas.List.Folds.{list_any-append}
 use Rattle.cap_entries.specs.declared.terminal.TermEntry.{TermEntry}
 use Rattle.cap_entries.specs.declared.terminal.TermEntry.TheVariants.{Setup, Begin, Declined, Completed, Voided, Cancelled, Closed, Acked, Part}
 use Rattle.cap_entries.specs.Entry.{is_begin, completes, cancels, is_any_closed, is_completed, is_cancelled}
-use Rattle.cap_entries.specs.Allowed.{allowed, allowed_after, all_allowed, Legal}
+use Rattle.cap_entries.specs.Allowed.{allowed, all_allowed, Legal}
 use Rattle.cap_entries.specs.AllowedLaws.{along, allowed_is}
 use Rattle.cap_plain.specs.LegalLaws.{completed_begun}
 use Rattle.cap_schedule.specs.declared.outcome.Outcome.{Outcome}

@@ -1,11 +1,11 @@
 -- What a line makes of what a terminal takes.
-use Rattle.std.proofs.Common.{◌≡◌, ◌⊎◌, ⊎_elim, inl, inr, ℕ, ◌+◌, ◌^◌, ◌<◌, Bool, true, false, not, List, [], ◌∷◌, ◌++◌, Option, Some, None, Ok, Err, refl, sym, ◌∙◌, ap, subst, append-nil, IsTrue}
-use Rattle.std.specs.Prelude.{Result, IsErrOf, nat_le, nat_lt, if◌then◌else◌, length, slice_get}
+use Rattle.std.proofs.Common.{◌≡◌, ◌⊎◌, inl, inr, ℕ, ◌+◌, ◌^◌, ◌<◌, Bool, true, false, not, List, [], ◌∷◌, ◌++◌, Option, Some, Ok, Err, refl, sym, ◌∙◌, ap, subst, append-nil, IsTrue}
+use Rattle.std.specs.Prelude.{Result, IsErrOf, nat_le, nat_lt, if◌then◌else◌, length}
 use Rattle.std.proofs.lemmas.Bool.{false≢true, cond-false}
 use Rattle.std.proofs.lemmas.Option.{none-some, same_Some}
 use Rattle.cap_base.specs.declared.codes.Response.{Response}
 use Rattle.cap_base.specs.declared.codes.Response.TheVariants.{Appr, Decl, Part as Part_response, Tech}
-use Rattle.cap_disk.specs.Disk.{Counts, LeavesOnly}
+use Rattle.cap_disk.specs.Disk.{Counts}
 use Rattle.cap_journal.specs.File.{Has}
 use Rattle.cap_journal.specs.Seen.{EveryImageHas}
 use Rattle.cap_msgs.specs.declared.message.Message.{Message}
@@ -22,19 +22,19 @@ use Rattle.cap_terminal.specs.declared.handled.Handled.{Handled}
 use Rattle.cap_terminal.specs.declared.handled.Handled.TheVariants as H
 use Rattle.cap_terminal.specs.declared.handled.TermFault.{TermFault}
 use Rattle.cap_terminal.specs.declared.handled.TermFault.TheVariants as F
-use Rattle.cap_terminal.specs.Causes.{is_adding, MayTake, IsTakeCause}
+use Rattle.cap_terminal.specs.Causes.{is_adding}
 use Rattle.cap_terminal.specs.Handles.{Handles}
 use Rattle.cap_terminal.specs.Does.{Decline}
-use Rattle.cap_terminal.specs.Takes.{Taken, IsNotOurs, refuses, takes, take_reply, take_part, take_acknowledgement, is_awaited, acked_answer, is_for_us}
+use Rattle.cap_terminal.specs.Takes.{Taken, IsNotOurs, refuses, takes, take_reply, take_acknowledgement, is_awaited, acked_answer, is_for_us}
 use Rattle.cap_schedule.specs.declared.outcome.Outcome.{Outcome}
 use Rattle.cap_schedule.specs.declared.outcome.Outcome.TheVariants as O
 use Rattle.cap_world.specs.World.{TerminalState, TerminalAction}
 use Rattle.cap_plays.specs.declared.fault.LineFault.{LineFault}
-use Rattle.cap_plays.specs.declared.fault.LineFault.TheVariants.{Disk, Memory}
-use Rattle.cap_plays.specs.Turns.{Turn, makes, says, Decided, left_with, on_response, on_handled, fault_outcome, decided, decides_on}
+use Rattle.cap_plays.specs.declared.fault.LineFault.TheVariants.{Disk}
+use Rattle.cap_plays.specs.Turns.{makes, Decided, left_with, on_response, on_handled, fault_outcome, decided, decides_on}
 use Rattle.cap_terminal_lines.specs.declared.said.Said.{Said}
 use Rattle.cap_plays.specs.Texts.{IsSent}
-use Rattle.cap_terminal_lines.specs.Acts.{IsReady, LineDone, AddDone}
+use Rattle.cap_terminal_lines.specs.Acts.{IsReady, LineDone}
 use Rattle.cap_terminal_lines.specs.Hears.{decision_in, IsAnswerAlone, says_only, refusal_of, DecidedDone}
 use Rattle.cap_terminal_lines.proofs.Steps.{Breaks, Grows, add_ok, add_disk, grew_trying, broke_trying, rest_trying, rest_of, rested_ready}
 use Rattle.cap_terminal_lines.proofs.Quiet.{quiet_line}

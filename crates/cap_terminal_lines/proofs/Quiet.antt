@@ -1,5 +1,5 @@
 -- A line's step that adds nothing: it sends, or hears what adds nothing.
-use Rattle.std.proofs.Common.{◌≡◌, ℕ, ◌+◌, ◌^◌, ◌≤◌, ◌<◌, Bool, true, false, List, [], ◌∷◌, ◌++◌, length, Option, Some, None, Ok, Err, refl, sym, ◌∙◌, ap, subst, append-nil, arith, IsTrue}
+use Rattle.std.proofs.Common.{◌≡◌, ℕ, ◌+◌, Bool, true, List, [], ◌∷◌, ◌++◌, length, Option, Some, None, Ok, Err, refl, sym, ◌∙◌, ap, subst, append-nil, arith}
 use Rattle.std.specs.Prelude.{Result}
 use Rattle.cap_disk.specs.Disk.{Counts}
 use Rattle.cap_journal.specs.File.{Has}
@@ -14,7 +14,7 @@ use Rattle.cap_terminal.specs.Sends.{Sending, message_of}
 use Rattle.cap_world.specs.World.{TerminalState, TerminalAction, Sends_message}
 use Rattle.cap_plays.specs.declared.fault.LineFault.{LineFault}
 use Rattle.cap_plays.specs.declared.fault.LineFault.TheVariants.{Disk, Memory}
-use Rattle.cap_plays.specs.Turns.{Work, Turn, worked, says, makes, behind, sends}
+use Rattle.cap_plays.specs.Turns.{Work, worked, says, makes, sends}
 use Rattle.cap_plays.specs.Plays.{no_doubt}
 use Rattle.cap_plays.specs.Corresponds.{EachHas, TerminalCorresponds, EndFate}
 use Rattle.cap_plays.specs.Holding.{end_has}
@@ -22,7 +22,7 @@ use Rattle.cap_plays.specs.Ends.{call_done}
 use Rattle.cap_terminal_lines.specs.declared.said.Said.{Said}
 use Rattle.cap_plays.specs.Texts.{IsSent}
 use Rattle.cap_terminal_lines.specs.Sent.{SendsText}
-use Rattle.cap_terminal_lines.specs.Acts.{end_armed, IsReady, IsDone, LineDone}
+use Rattle.cap_terminal_lines.specs.Acts.{end_armed, IsReady, LineDone}
 use Rattle.cap_terminal_lines.proofs.Steps.{fate_quiet}
 
 abbrev pub rests_by : TerminalAction → List Message → Work

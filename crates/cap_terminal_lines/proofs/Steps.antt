@@ -1,5 +1,5 @@
 -- What a line of a terminal has done follows from what its calls did, step by step.
-use Rattle.std.proofs.Common.{◌≡◌, ◌⊎◌, ⊎_elim, ℕ, ◌+◌, ◌-◌, ◌^◌, ◌≤◌, ◌<◌, Bool, true, false, List, [], ◌∷◌, ◌++◌, Option, Some, None, Ok, Err, refl, sym, ◌∙◌, ap, subst, append-nil, arith, IsTrue, leb-true}
+use Rattle.std.proofs.Common.{◌≡◌, ⊎_elim, ℕ, ◌+◌, ◌-◌, ◌^◌, ◌≤◌, ◌<◌, Bool, true, false, List, [], ◌∷◌, ◌++◌, Option, Some, None, Ok, Err, refl, sym, ◌∙◌, ap, subst, arith, IsTrue, leb-true}
 use Rattle.std.specs.Prelude.{Result, IsSome, IsSomeAnd, nat_le}
 use Rattle.std.proofs.lemmas.Bool.{cond-true, cond-false, le-leb, lt-leb}
 use Rattle.std.proofs.lemmas.Bool.Decides.{nat_tests}
@@ -15,7 +15,7 @@ use Rattle.cap_schedule.specs.declared.outcome.Outcome.{Outcome}
 use Rattle.cap_world.specs.World.{TerminalState, TerminalAction}
 use Rattle.cap_plays.specs.declared.fault.LineFault.{LineFault}
 use Rattle.cap_plays.specs.declared.fault.LineFault.TheVariants.{Disk, Memory}
-use Rattle.cap_plays.specs.Turns.{Work, Turn, worked, says, makes, behind}
+use Rattle.cap_plays.specs.Turns.{Work, Turn, worked, says, behind}
 use Rattle.cap_plays.specs.Plays.{no_doubt}
 use Rattle.cap_plays.specs.Corresponds.{Holds, EachHas, EachHasEither, TerminalCorresponds, EndFate, end_in}
 use Rattle.cap_plays.specs.Holding.{holds_settled}
@@ -23,7 +23,7 @@ use Rattle.cap_plays.specs.Ends.{call_done, call_broken}
 use Rattle.cap_terminal_lines.specs.declared.said.Said.{Said}
 use Rattle.cap_plays.specs.Texts.{IsSent}
 use Rattle.cap_plays.specs.Armed.{IsArmed}
-use Rattle.cap_terminal_lines.specs.Acts.{end_armed, IsReady, IsDone, IsBroken, LineDone, AddDone, Grew, Broke, Rested}
+use Rattle.cap_terminal_lines.specs.Acts.{end_armed, IsReady, LineDone, AddDone, Grew, Broke, Rested}
 
 -- a step that adds an entry
 abbrev pub added_by : TerminalAction → TermEntry → Work

@@ -1,5 +1,5 @@
 -- A line that needs fewer calls.
-use Rattle.std.proofs.Common.{◌≡◌, ℕ, ◌+◌, ◌^◌, ◌<◌, ◌≤◌, Bool, List, Option, Some, None, Ok, Err, arith}
+use Rattle.std.proofs.Common.{ℕ, ◌+◌, ◌^◌, ◌<◌, ◌≤◌, Bool, List, Option, Ok, Err, arith}
 use Rattle.std.specs.Prelude.{Result}
 use Rattle.cap_disk.specs.Disk.{Counts}
 use Rattle.cap_msgs.specs.declared.message.Message.{Message}
@@ -10,7 +10,7 @@ use Rattle.cap_plays.specs.declared.fault.LineFault.{LineFault}
 use Rattle.cap_plays.specs.declared.fault.LineFault.TheVariants.{Disk, Memory}
 use Rattle.cap_plays.specs.Turns.{Turn}
 use Rattle.cap_terminal_lines.specs.declared.said.Said.{Said}
-use Rattle.cap_terminal_lines.specs.Acts.{IsReady, IsDone, LineDone}
+use Rattle.cap_terminal_lines.specs.Acts.{IsReady, LineDone}
 
 module _ {J : Type 0} (entries : J → List TermEntry) (has_failed tells : J → Bool) (may_leave : J → List ℕ → Type 0) (counts : J → Option Counts) where
   pub less_ready : (n m : ℕ) (now : J) (heard : List Message) (s : TerminalState) (places : List ℕ) (armed : Option ℕ) (before : Counts) → n ≤ m

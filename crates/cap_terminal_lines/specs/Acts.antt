@@ -1,5 +1,5 @@
 -- What a line of a schedule makes of a terminal over any journal, in the words of the model.
-use Rattle.std.specs.Prelude.{◌≡◌, ⊤, ℕ, ◌+◌, ◌^◌, ◌≤◌, ◌<◌, Bool, true, false, List, [], ◌∷◌, ◌++◌, length, Option, Some, None, Result, Ok, Err, IsTrue, IsSome}
+use Rattle.std.specs.Prelude.{◌≡◌, ⊤, ℕ, ◌+◌, ◌^◌, ◌<◌, Bool, true, false, List, [], ◌∷◌, ◌++◌, length, Option, Some, None, Result, Ok, Err, IsTrue, IsSome}
 use Rattle.cap_disk.specs.Disk.{Counts}
 use Rattle.cap_journal.specs.File.{Has}
 use Rattle.cap_journal.specs.Told.{StopsWithin, counted}

@@ -1,5 +1,5 @@
-use Rattle.std.proofs.Common.{◌≡◌, ◌+◌, ◌*◌, ◌<◌, ◌≤◌, ◌∙◌, Some, None, sym, ap, subst, arith, length, List, drop, refl}
-use Rattle.std.specs.Prelude.{slice_get, ℕ}
+use Rattle.std.proofs.Common.{◌≡◌, ◌<◌, ◌≤◌, ◌∙◌, Some, None, sym, ap, subst, arith, length, List}
+use Rattle.std.specs.Prelude.{slice_get}
 use Rattle.cap_base.specs.Captured.{captured}
 use Rattle.cap_entries.specs.declared.host.HostEntry.{HostEntry}
 use Rattle.cap_entries.specs.Log.{log, setup_of}

@@ -1,4 +1,4 @@
-use Rattle.std.proofs.Common.{◌≡◌, ◌+◌, ◌<◌, ◌≤◌, ◌∙◌, sym, arith, length, append-nil}
+use Rattle.std.proofs.Common.{◌∙◌, sym, arith, append-nil}
 use Rattle.cap_entries.specs.Log.{log}
 use Rattle.cap_host.specs.Host.{entries_of}
 use Rattle.cap_host_lines.proofs.Logs.{logs_fit_in, is_closed, is_open, few_closings, period_more, periods_done}

@@ -1,8 +1,8 @@
-use Rattle.std.proofs.Common.{◌≡◌, false, Some, ◌∙◌}
+use Rattle.std.proofs.Common.{◌≡◌, Some, ◌∙◌}
 use Rattle.cap_disk.specs.Disk.{Counts, StaysCounted}
 use Rattle.cap_disk.specs.Switch.{stop_of}
 use Rattle.cap_disk.specs.MemoryDisk.{told_of}
-use Rattle.cap_host.specs.Host.{journal_of, entries_of, has_failed}
+use Rattle.cap_host.specs.Host.{journal_of}
 use Rattle.cap_power.specs.Images.{NoOthers}
 use Rattle.cap_power.proofs.Disks.{if_ok_map, stays_told}
 use Rattle.cap_power.proofs.host.host_armed.Goals as goal

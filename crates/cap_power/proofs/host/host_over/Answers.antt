@@ -1,6 +1,6 @@
 use Rattle.std.proofs.Common.{refl}
 use Rattle.cap_disk.specs.MemoryDisk.{moment_of}
-use Rattle.cap_host.specs.Host.{journal_of, entries_of, has_failed}
+use Rattle.cap_host.specs.Host.{journal_of}
 use Rattle.cap_power.specs.Images.{left_since_now}
 use Rattle.cap_power.proofs.host.host_over.Goals as goal
 

@@ -1,4 +1,4 @@
-use Rattle.std.proofs.Common.{◌≡◌, false, Some, ◌∙◌}
+use Rattle.std.proofs.Common.{◌≡◌, Some, ◌∙◌}
 use Rattle.cap_disk.specs.Disk.{Counts, StaysCounted}
 use Rattle.cap_disk.specs.Switch.{stop_of}
 use Rattle.cap_disk.specs.MemoryDisk.{told_of}

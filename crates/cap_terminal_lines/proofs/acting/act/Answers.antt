@@ -1,11 +1,10 @@
-use Rattle.std.proofs.Common.{◌≡◌, ℕ, ◌≤◌, Bool, List, [], ◌∷◌, ◌++◌, Option, Some, None, Ok, Err, refl, true, false, sym, subst, ap, ◌∙◌, arith}
-use Rattle.cap_msgs.specs.Received.{Received}
+use Rattle.std.proofs.Common.{◌≡◌, ℕ, ◌≤◌, List, [], refl, false, sym, subst, arith}
 use Rattle.cap_entries.specs.declared.terminal.TermEntry.{TermEntry}
-use Rattle.cap_terminal.specs.Takes.{IsNotOurs, takes}
+use Rattle.cap_terminal.specs.Takes.{IsNotOurs}
 use Rattle.cap_schedule.specs.declared.schedule.Order.{Order}
 use Rattle.cap_schedule.specs.declared.schedule.Order.TheVariants as T
 use Rattle.cap_world.specs.World.{Hears_foreign}
-use Rattle.cap_plays.specs.Turns.{Turn, makes, decides_on, turn_of}
+use Rattle.cap_plays.specs.Turns.{makes, decides_on, turn_of}
 use Rattle.cap_schedule.specs.Ranges.{OrderInRange}
 use Rattle.cap_plays.specs.Laws.{wanted_in_range}
 use Rattle.cap_terminal_lines.specs.Acts.{IsNoiseTo, LineDone}

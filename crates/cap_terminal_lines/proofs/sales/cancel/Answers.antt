@@ -1,33 +1,18 @@
-use Rattle.std.proofs.Common.{◌≡◌, ◌⊎◌, ℕ, ◌+◌, ◌^◌, ◌<◌, ◌≤◌, Bool, List, [], ◌∷◌, ◌++◌, Option, Some, None, Ok, Err, refl, true, false, sym, subst, ap, ◌∙◌, arith, cond}
-use Rattle.std.specs.Prelude.{Result, IsTrue, count_by, nat_lt, nat_le, if◌then◌else◌}
-use Rattle.std.specs.List.{list_any}
-use Rattle.std.proofs.lemmas.Bool.{false≢true, false_from_ne_true, cond-true, cond-false, lt-ltb, le-ltb, le-leb, lt-leb}
+use Rattle.std.proofs.Common.{◌≡◌, ℕ, List, [], ◌∷◌, None, Ok, Err, refl, true, sym, subst, ap, ◌∙◌}
+use Rattle.std.proofs.lemmas.Bool.{false≢true, cond-true}
 use Rattle.cap_entries.specs.declared.terminal.TermEntry.{TermEntry}
-use Rattle.cap_entries.specs.declared.terminal.TermEntry.TheVariants.{Begin, Completed, Voided, Cancelled, Closed}
-use Rattle.cap_entries.specs.Entry.{is_any_begin, is_any_closed, is_begin, is_pending, is_completed, is_cancelled, amount_of, max_of}
+use Rattle.cap_entries.specs.declared.terminal.TermEntry.TheVariants.{Cancelled}
 use Rattle.cap_entries.specs.Allowed.{allowed}
-use Rattle.cap_entries.specs.Floor.{floor}
-use Rattle.cap_sale.specs.Tokens.{BegunSale, ApprovedSale}
-use Rattle.cap_schedule.specs.declared.outcome.Outcome.{Outcome}
 use Rattle.cap_schedule.specs.declared.outcome.Outcome.TheVariants as O
-use Rattle.cap_terminal.specs.Causes.{IsBeginCause, MayBegin, IsCancelCause, MayCancel, IsCloseCause, MayClose}
-use Rattle.cap_terminal.specs.Does.{offline_code}
-use Rattle.cap_terminal.specs.Live.{IsLive}
-use Rattle.cap_terminal.specs.declared.faults.BeginFault.{BeginFault}
-use Rattle.cap_terminal.specs.declared.faults.BeginFault.TheVariants as B
+use Rattle.cap_terminal.specs.Causes.{IsCancelCause}
 use Rattle.cap_terminal.specs.declared.faults.CancelFault.{CancelFault}
-use Rattle.cap_terminal.specs.declared.faults.CancelFault.TheVariants as K
-use Rattle.cap_terminal.specs.declared.faults.CloseFault.{CloseFault}
-use Rattle.cap_terminal.specs.declared.faults.CloseFault.TheVariants as P
-use Rattle.cap_world.specs.World.{TerminalState, Begins, Offline, Gives_up, Cancels, Closes}
-use Rattle.cap_plays.specs.declared.fault.LineFault.{LineFault}
-use Rattle.cap_plays.specs.declared.fault.LineFault.TheVariants.{Disk, Memory}
-use Rattle.cap_plays.specs.Turns.{Turn, worked, makes, says, adds, behind, begins, completes_offline, offline_turn, next_sale, next_period, if_cancellable}
-use Rattle.cap_journal.specs.Told.{counted}
+use Rattle.cap_world.specs.World.{Cancels}
+use Rattle.cap_plays.specs.declared.fault.LineFault.TheVariants.{Disk}
+use Rattle.cap_plays.specs.Turns.{Turn, makes, adds, if_cancellable}
 use Rattle.cap_terminal_lines.specs.declared.said.Said.{Said}
 use Rattle.cap_terminal_lines.specs.Acts.{LineDone}
-use Rattle.cap_terminal_lines.proofs.Steps.{Left, left_of, added_by, add_ok, add_disk, grew_adding, grew_trying, broke_adding, broke_trying, rest_adding, rest_trying, rest_of, grown_ready, rested_ready, said_line, line_behind, broken_line}
-use Rattle.cap_terminal_lines.proofs.Cancels.{may_cancel, no_sale, not_completed, already_cancelled, may_close, may_not_close}
+use Rattle.cap_terminal_lines.proofs.Steps.{add_ok, add_disk, grew_adding, broke_adding, rest_adding, rest_of, rested_ready, said_line}
+use Rattle.cap_terminal_lines.proofs.Cancels.{may_cancel, no_sale, not_completed, already_cancelled}
 use Rattle.cap_terminal_lines.proofs.sales.cancel.Goals as goal
 
 pub returns-in-Ok-clause-done : goal.returns-in-Ok-clause-done

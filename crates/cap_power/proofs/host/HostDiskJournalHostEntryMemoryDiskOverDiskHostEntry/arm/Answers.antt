@@ -1,8 +1,7 @@
 use Rattle.std.proofs.Common.{◌≡◌, false, Some, sym, subst}
 use Rattle.std.specs.Prelude.{IfOk}
-use Rattle.cap_disk.specs.Switch.{stop_of}
 use Rattle.cap_disk.specs.MemoryDisk.{told_of}
-use Rattle.cap_host.specs.Host.{journal_of, entries_of, has_failed}
+use Rattle.cap_host.specs.Host.{journal_of}
 use Rattle.cap_power.specs.Images.{NoOthers}
 use Rattle.cap_power.proofs.host.HostDiskJournalHostEntryMemoryDiskOverDiskHostEntry.arm.Goals as goal
 

@@ -1,13 +1,10 @@
-use Rattle.std.proofs.Common.{◌≡◌, ℕ, List, false, Some, sym, subst}
+use Rattle.std.proofs.Common.{◌≡◌, ℕ, List, false, Some}
 use Rattle.cap_disk.specs.Disk.{Counts}
 use Rattle.cap_disk.specs.MemoryDisk.{contents_of, told_of}
-use Rattle.cap_entries.specs.declared.host.HostEntry.{HostEntry}
-use Rattle.cap_entries.specs.HostRecord.{host_reading}
-use Rattle.cap_journal.specs.File.{Has}
 use Rattle.cap_journal.specs.Told.{StopsWithin}
-use Rattle.cap_host.specs.Host.{journal_of, entries_of, has_failed}
+use Rattle.cap_host.specs.Host.{journal_of}
 use Rattle.cap_power.specs.Images.{images_of, NoOthers}
-use Rattle.cap_power.proofs.Disks.{stays_told, if_ok_at, if_err_at, match_ok_at, match_err_at}
+use Rattle.cap_power.proofs.Disks.{stays_told, if_ok_at, if_err_at, match_err_at}
 use Rattle.cap_power.proofs.host.HostDiskJournalHostEntryMemoryDiskOverDiskHostEntry.open.Goals as goal
 
 pub host_over-requires : goal.host_over-requires

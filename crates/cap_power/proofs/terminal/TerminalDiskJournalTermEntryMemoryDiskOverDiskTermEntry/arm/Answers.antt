@@ -1,6 +1,5 @@
 use Rattle.std.proofs.Common.{◌≡◌, false, Some, sym, subst}
 use Rattle.std.specs.Prelude.{IfOk}
-use Rattle.cap_disk.specs.Switch.{stop_of}
 use Rattle.cap_disk.specs.MemoryDisk.{told_of}
 use Rattle.cap_power.specs.Images.{NoOthers}
 use Rattle.cap_power.proofs.terminal.TerminalDiskJournalTermEntryMemoryDiskOverDiskTermEntry.arm.Goals as goal

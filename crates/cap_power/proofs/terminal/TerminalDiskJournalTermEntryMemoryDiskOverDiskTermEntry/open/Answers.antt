@@ -1,12 +1,9 @@
-use Rattle.std.proofs.Common.{◌≡◌, ℕ, List, false, Some, sym, subst}
+use Rattle.std.proofs.Common.{◌≡◌, ℕ, List, false, Some}
 use Rattle.cap_disk.specs.Disk.{Counts}
 use Rattle.cap_disk.specs.MemoryDisk.{contents_of, told_of}
-use Rattle.cap_entries.specs.declared.terminal.TermEntry.{TermEntry}
-use Rattle.cap_entries.specs.TermRecord.{term_reading}
-use Rattle.cap_journal.specs.File.{Has}
 use Rattle.cap_journal.specs.Told.{StopsWithin}
 use Rattle.cap_power.specs.Images.{images_of, NoOthers}
-use Rattle.cap_power.proofs.Disks.{stays_told, if_ok_at, if_err_at, match_ok_at, match_err_at}
+use Rattle.cap_power.proofs.Disks.{stays_told, if_ok_at, if_err_at, match_err_at}
 use Rattle.cap_power.proofs.terminal.TerminalDiskJournalTermEntryMemoryDiskOverDiskTermEntry.open.Goals as goal
 
 pub terminal_over-requires : goal.terminal_over-requires

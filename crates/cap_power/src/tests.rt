@@ -1,9 +1,9 @@
 // Both ends through power cuts, failed calls and openings.
-ghost use Rattle.std.specs.Prelude.{◌≡◌, false, IsTrue, IfOk, OnOk};
+ghost use Rattle.std.specs.Prelude.{◌≡◌, false, IsTrue, IfOk, IfSome, OnOk};
 ghost use Rattle.cap_host.specs.Host.{has_failed};
 
 use crate::{Power, Settled, armed, journal_of, reopen, settle};
-use cap_base::{Ident, Row};
+use cap_base::{Ident, Memory, Row};
 use cap_disk::{Fill, MemoryDisk};
 use cap_entries::{HostEntry, RowSet, TermEntry, TermSetup};
 use cap_host::{Host, PublishFault};
@@ -164,12 +164,13 @@ fn an_opening_settles_what_a_failed_call_left(rt: HostRuntime) -> Result<(), Fai
     Ok(())
 }
 
-fn host_setup(alloc: Global) -> Result<HostEntry, Fail>
-    ensures { IfOk result (λ entry. IsTrue (⟦<HostEntry as Record>⟧.fits entry)) }
+// The entry of this record.
+fn entry_of(alloc: Global, record: &[u8]) -> Result<Option<HostEntry>, Memory>
+    ensures { IfOk result (λ found. IfSome found (λ entry. IsTrue (⟦<HostEntry as Record>⟧.fits entry))) }
 {
-    match HostEntry::read(alloc, HOST_SETUP)? {
-        Some((entry, _)) => Ok(entry),
-        None => Err(Fail::from("no set-up")),
+    match HostEntry::read(alloc, record)? {
+        Some((entry, _)) => Ok(Some(entry)),
+        None => Ok(None),
     }
 }
 
@@ -177,7 +178,10 @@ fn host_setup(alloc: Global) -> Result<HostEntry, Fail>
 fn acquirer(alloc: Global) -> Result<Acquirer, Fail>
     ensures { IfOk result (λ host. has_failed host ≡ false) }
 {
-    let journal = journal_of(alloc, host_setup(alloc)?)?;
+    let Some(entry) = entry_of(alloc, HOST_SETUP)? else {
+        return Err(Fail::from("no set-up"));
+    };
+    let journal = journal_of(alloc, entry)?;
     match Host::open(alloc, journal) {
         Ok(host) => Ok(host),
         Err(_) => Err(Fail::from("not opened")),

@@ -1,5 +1,5 @@
 -- What reading leaves of a host.
-use Rattle.std.proofs.Common.{Bool, true, Option, None, Ok, Err, refl, sym, ◌∙◌, subst, IsTrue}
+use Rattle.std.proofs.Common.{◌≡◌, Bool, true, Option, None, Ok, Err, refl, sym, ap, ◌∙◌, subst, IsTrue}
 use Rattle.std.specs.Prelude.{Result, IsOk, OnOk, IsErrOf}
 use Rattle.std.proofs.lemmas.Bool.{false≢true}
 use Rattle.cap_disk.specs.Disk.{Counts, StaysCounted}
@@ -8,16 +8,19 @@ use Rattle.cap_journal.specs.File.{Has}
 use Rattle.cap_entries.specs.declared.host.HostEntry.{HostEntry}
 use Rattle.cap_entries.specs.HostRecord.{host_reading}
 use Rattle.cap_host_ledger.specs.declared.fault.HostFault.{HostFault}
-use Rattle.cap_host_ledger.specs.declared.fault.HostFault.TheVariants.{Disk}
+use Rattle.cap_host_ledger.specs.declared.fault.HostFault.TheVariants.{Disk, Failed}
 use Rattle.cap_host.specs.declared.host.Host.{Host}
 use Rattle.cap_host.specs.Host.{entries_of, fault_of, Reads}
 use Rattle.cap_plays.specs.Plays.{no_doubt}
 use Rattle.cap_plays.specs.Holding.{end_fewer}
 use Rattle.cap_host_lines.specs.Acts.{counts_of, images_of}
-use Rattle.cap_host_lines.specs.Logs.{Keeps}
+use Rattle.cap_host_lines.specs.Logs.{Keeps, Blames}
 
 no_disk : {T : Type 0} (v : T) → IsErrOf {E = HostFault} (Ok v) Disk → ⊥
 no_disk v is = cc
+
+same_fault : {S T : Type 0} (fault other : HostFault) → IsErrOf {T = T} {E = HostFault} (Err fault) other → IsErrOf {T = S} {E = HostFault} (Err fault) other
+same_fault {S = S} fault other is = let same : fault ≡ other = cc in ap (λ (f : HostFault). let r : Result S HostFault = Err f in r) same
 
 pub ok_then : {A B D E : Type 0} (P : Type 0) (given : Result A D) (result : Result B E) → OnOk result (IsOk given) → OnOk given P → OnOk result P
 ok_then P (Ok a) (Ok b) is p = p
@@ -49,6 +52,14 @@ module _ {J : Type 0} {g : Ghosts J HostEntry} where
   pub kept_if : {T : Type 0} (old new : Host J g) (given : Result T HostFault) → Reads old new (fault_of given) → OnOk given (Keeps old new)
   kept_if old new (Ok v) reads = kept old new reads
   kept_if old new (Err fault) reads = tt
+
+  pub blamed : {T : Type 0} (old new : Host J g) (given : Result T HostFault) → Reads old new (fault_of given) → Blames old new given
+  blamed old new (Ok v) reads = record { later = reads.stays.faults; disk = λ is. absurd (no_disk v is); never_failed = λ is. let no : ⊥ = cc in no }
+  blamed old new (Err fault) reads = record {
+    later = reads.stays.faults;
+    disk = λ is. reads.stays.disk (same_fault fault Disk is);
+    never_failed = λ is. reads.never_failed (same_fault fault Failed is);
+  }
 
   pub keeps_same : (host : Host J g) → Keeps host host
   keeps_same host = record { entries = refl; works = refl; ready = λ s armed before ready. ready }

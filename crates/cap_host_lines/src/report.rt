@@ -1,11 +1,12 @@
 // A host's part of a report.
-ghost use Rattle.std.specs.Prelude.{◌≡◌, ◌<◌, ◌≤◌, ◌++◌, length, IfOk, OnOk, IsOk, slice_get};
+ghost use Rattle.std.specs.Prelude.{◌≡◌, ◌≢◌, ◌<◌, ◌≤◌, ◌++◌, length, IfOk, OnOk, IsOk, Err, slice_get};
+ghost use Rattle.cap_base.specs.Causes.{Rose};
 ghost use Rattle.cap_base.specs.Captured.{captured};
 ghost use Rattle.cap_entries.specs.Log.{log, setup_of};
 ghost use Rattle.cap_host.specs.Capture.{line_of};
 ghost use Rattle.cap_host.specs.Host.{entries_of};
 ghost use Rattle.cap_plays.specs.Report.{amounts, host_line, period_lines};
-ghost use Rattle.cap_host_lines.specs.Logs.{Keeps, log_text};
+ghost use Rattle.cap_host_lines.specs.Logs.{Keeps, Blames, faults_of, log_text};
 
 use cap_base::Ident;
 use cap_entries::HostEntry;
@@ -37,6 +38,7 @@ fn captured_line<J: Journal<HostEntry> + Drop>(
     requires { place < length (setup_of (entries_of host.old)).terminals }
     ensures line { IfOk result (λ line. line ≡ line_of (slice_get (captured (log (entries_of host.old) place)) k)) }
     ensures keeps { OnOk result (Keeps host.old host.new) }
+    ensures blames { Blames host.old host.new result }
 {
     host.capture_line(place, k)
 }
@@ -50,6 +52,7 @@ fn captured_sum<J: Journal<HostEntry> + Drop>(
     ensures count { IfOk result (λ sums. sums.count ≡ length (captured (log (entries_of host.old) place))) }
     ensures sum { IfOk result (λ sums. sums.sum ≡ amounts (captured (log (entries_of host.old) place))) }
     ensures keeps { OnOk result (Keeps host.old host.new) }
+    ensures blames { Blames host.old host.new result }
 {
     let len = host.log_len(place);
     let mut sum: u128 = 0;
@@ -102,7 +105,8 @@ fn put_lines<J: Journal<HostEntry> + Drop>(
 }
 
 fn or_memory(given: Result<(), AllocError>) -> Result<(), LineFault>
-    ensures { OnOk result (IsOk given) }
+    ensures ok { OnOk result (IsOk given) }
+    ensures no_disk { result ≢ Err LineFault.Disk }
 {
     match given {
         Ok(()) => Ok(()),
@@ -123,6 +127,7 @@ pub fn put_log<J: Journal<HostEntry> + Drop>(
     requires { place < length (setup_of (entries_of host.old)).terminals }
     ensures text { OnOk result (text.new.items ≡ text.old.items ++ log_text id.now (log (entries_of host.old) place)) }
     ensures keeps { OnOk result (Keeps host.old host.new) }
+    ensures disk { result ≡ Err LineFault.Disk → Rose (faults_of host.old) (faults_of host.new) }
 {
     match captured_sum(host, place) {
         Ok(sums) => or_memory(put_lines(alloc, text, id, host, place, sums)),

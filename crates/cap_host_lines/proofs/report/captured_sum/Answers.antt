@@ -11,7 +11,7 @@ use Rattle.cap_host_lines.proofs.Logs.{all_read, one_read, none_left, few_captur
 use Rattle.cap_host_lines.proofs.report.captured_sum.Goals as goal
 
 pub loop-k-init : goal.loop-k-init
-loop-k-init g c = record { few = omega arith; rest = nothing_yet (amounts (captured (log (entries_of c.args.host.now) c.args.place))); small = omega arith; keeps = keeps_same c.args.host.now }
+loop-k-init g c = record { few = omega arith; rest = nothing_yet (amounts (captured (log (entries_of c.args.host.now) c.args.place))); small = omega arith; keeps = keeps_same c.args.host.now; later = omega arith }
 
 pub captured_line-requires : goal.captured_line-requires
 captured_line-requires g c = subst (λ (es : List HostEntry). c.args.place < length (setup_of es).terminals) (sym c.loop-k.invariant.keeps.entries) c.requires
@@ -37,6 +37,7 @@ loop-k-preserved g c =
       rest = omega (arith, one.1, inv.rest, value);
       small = omega (arith, inv.small, small);
       keeps = keeps_both c.args.host.now c.loop-k.host c.captured_line.new.host inv.keeps c.in_ok-line.ensures.keeps;
+      later = omega (arith, inv.later, c.in_ok-line.ensures.blames.later);
     }
 
 pub returns-in-None-clause-count : goal.returns-in-None-clause-count

@@ -12,7 +12,7 @@ put_lines-requires g c = subst (λ (es : List HostEntry). c.args.place < length 
 
 pub returns-in-Ok-clause-text : goal.returns-in-Ok-clause-text
 returns-in-Ok-clause-text g c =
-    ok_then (c.put_lines.new.text.items ≡ c.args.text.now.items ++ log_text c.args.id.now (log (entries_of c.args.host.now) c.args.place)) c.put_lines.result c.or_memory.result c.or_memory.ensures
+    ok_then (c.put_lines.new.text.items ≡ c.args.text.now.items ++ log_text c.args.id.now (log (entries_of c.args.host.now) c.args.place)) c.put_lines.result c.or_memory.result c.or_memory.ensures.ok
     (ok_map c.put_lines.result
     (log_said c.args.id.now c.args.text.now.items c.put_lines.new.text.items (entries_of c.args.host.now) (entries_of c.captured_sum.new.host) c.args.place c.in-Ok.sums.count c.in-Ok.sums.sum c.in-Ok.ensures.keeps.entries c.in-Ok.ensures.count c.in-Ok.ensures.sum)
     c.put_lines.ensures)

@@ -42,3 +42,4 @@ pub mod TermRecordLaws
 pub mod TermRecordFits
 pub mod HostRecordLaws
 pub mod HostRecordFits
+pub mod SetUps

@@ -3,4 +3,3 @@ pub mod Reading
 pub mod Doing
 pub mod Logs
 pub mod Keeping
-pub mod Room

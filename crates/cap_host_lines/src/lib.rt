@@ -6,8 +6,6 @@ mod calls;
 mod lines;
 mod report;
 mod said;
-#[cfg(test)]
-mod tests;
 
 pub use cap_plays::LineFault;
 pub use lines::{deliver, listen, missing, publish};

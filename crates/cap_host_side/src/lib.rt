@@ -4,8 +4,6 @@
 mod reporting;
 mod side;
 mod starting;
-#[cfg(test)]
-mod tests;
 
 pub use reporting::put_log;
 pub use side::{DiskHost, Done, act, reopen};

@@ -8,8 +8,6 @@ mod network;
 mod opening;
 mod report;
 mod running;
-#[cfg(test)]
-mod tests;
 
 pub use network::Network;
 pub use running::{make, replay};

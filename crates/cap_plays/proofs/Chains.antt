@@ -21,11 +21,11 @@ use Rattle.cap_entries.specs.Allowed.{allowed}
 use Rattle.cap_entries.specs.Log.{published}
 use Rattle.cap_plain.specs.Queue.{queue}
 use Rattle.cap_sale.specs.declared.response.AuthResponse.{AuthResponse}
-use Rattle.cap_terminal.specs.declared.handled.Handled.{Handled}
-use Rattle.cap_terminal.specs.declared.handled.Handled.TheVariants as H
-use Rattle.cap_terminal.specs.declared.handled.TermFault.{TermFault}
-use Rattle.cap_terminal.specs.Takes.{takes, queue_head, IsNotOurs}
-use Rattle.cap_terminal.specs.Does.{Decides}
+use Rattle.cap_terminal_answers.specs.declared.handled.Handled.{Handled}
+use Rattle.cap_terminal_answers.specs.declared.handled.Handled.TheVariants as H
+use Rattle.cap_terminal_answers.specs.declared.handled.TermFault.{TermFault}
+use Rattle.cap_terminal_answers.specs.Takes.{takes, queue_head, IsNotOurs}
+use Rattle.cap_terminal_answers.specs.Does.{Decides}
 use Rattle.cap_host_answers.specs.Received.{answer_received, Replies, IsForeign}
 use Rattle.cap_schedule.specs.declared.outcome.Outcome.{Outcome}
 use Rattle.cap_schedule.specs.declared.schedule.End.{End}

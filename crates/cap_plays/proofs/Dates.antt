@@ -17,8 +17,8 @@ use Rattle.cap_entries.specs.Floor.{floor}
 use Rattle.cap_entries.specs.Allowed.{allowed}
 use Rattle.cap_entries.specs.Log.{published, log}
 use Rattle.cap_plain.specs.Queue.{queue}
-use Rattle.cap_terminal.specs.Takes.{queue_head}
-use Rattle.cap_terminal.specs.Sends.{Sending}
+use Rattle.cap_terminal_answers.specs.Takes.{queue_head}
+use Rattle.cap_terminal_answers.specs.Sends.{Sending}
 use Rattle.cap_host_answers.specs.Received.{answer_received, place_named}
 use Rattle.cap_schedule.specs.declared.outcome.Outcome.{Outcome}
 use Rattle.cap_schedule.specs.declared.outcome.Outcome.TheVariants as O

@@ -4,7 +4,7 @@ use Rattle.std.specs.List.{AllByRecursion}
 use Rattle.std.proofs.Common.{refl, sym, subst, inl, inr}
 use Rattle.cap_base.specs.declared.codes.DataSet.{DataSet}
 use Rattle.cap_base.specs.declared.codes.DataSet.TheVariants.{Aqpr, Mgtp}
-use Rattle.cap_terminal.specs.Sends.{may_be_wanted}
+use Rattle.cap_terminal_answers.specs.Sends.{may_be_wanted}
 use Rattle.cap_leaf.specs.Date.{DateParts}
 use Rattle.cap_msgs.specs.Received.{Received}
 use Rattle.cap_entries.specs.declared.terminal.TermEntry.{TermEntry}

@@ -14,7 +14,7 @@ use Rattle.cap_entries.specs.Items.{items}
 use Rattle.cap_entries.specs.Acked.{acked}
 use Rattle.cap_entries.specs.InForce.{version_in_force}
 use Rattle.cap_entries.specs.Log.{log}
-use Rattle.cap_terminal.specs.Counts.{is_any_completed, is_any_cancelled, is_any_voided}
+use Rattle.cap_terminal_answers.specs.Counts.{is_any_completed, is_any_cancelled, is_any_voided}
 use Rattle.cap_schedule.specs.Outcomes.{outcome_lines}
 use Rattle.cap_schedule.specs.declared.schedule.Schedule.{Schedule}
 use Rattle.cap_world.specs.World.{TerminalState}

@@ -12,7 +12,7 @@ use Rattle.cap_entries.specs.declared.terminal.TermEntry.{TermEntry}
 use Rattle.cap_entries.specs.declared.terminal.TermEntry.TheVariants.{Setup}
 use Rattle.cap_entries.specs.declared.host.HostEntry.{HostEntry}
 use Rattle.cap_entries.specs.declared.host.HostEntry.TheVariants.{Setup as Host_setup}
-use Rattle.cap_terminal.specs.Takes.{Taken, takes, is_for_us, IsNotOurs}
+use Rattle.cap_terminal_answers.specs.Takes.{Taken, takes, is_for_us, IsNotOurs}
 use Rattle.cap_entries.specs.Log.{setup_of}
 use Rattle.cap_host_answers.specs.Received.{place_from, place_of, answer_from, answer_received, IsForeign}
 use Rattle.cap_host_answers.specs.Answer.{Answered}

@@ -27,13 +27,13 @@ use Rattle.cap_entries.specs.InForce.{version_in_force, staged_from, staged_vers
 use Rattle.cap_entries.specs.Log.{published}
 use Rattle.cap_plain.specs.Queue.{queue}
 use Rattle.cap_sale.specs.declared.response.AuthResponse.{AuthResponse}
-use Rattle.cap_terminal.specs.declared.handled.Handled.{Handled}
-use Rattle.cap_terminal.specs.declared.handled.Handled.TheVariants as H
-use Rattle.cap_terminal.specs.declared.handled.TermFault.{TermFault}
-use Rattle.cap_terminal.specs.declared.handled.TermFault.TheVariants as F
-use Rattle.cap_terminal.specs.Takes.{takes, queue_head}
-use Rattle.cap_terminal.specs.Does.{offline_code, Decision, Leave, Complete, Give_up, Decline}
-use Rattle.cap_terminal.specs.Sends.{message_of, Sending, Head, Batch_of, Ask, Ask_cancel, Diagnose, Report_status}
+use Rattle.cap_terminal_answers.specs.declared.handled.Handled.{Handled}
+use Rattle.cap_terminal_answers.specs.declared.handled.Handled.TheVariants as H
+use Rattle.cap_terminal_answers.specs.declared.handled.TermFault.{TermFault}
+use Rattle.cap_terminal_answers.specs.declared.handled.TermFault.TheVariants as F
+use Rattle.cap_terminal_answers.specs.Takes.{takes, queue_head}
+use Rattle.cap_terminal_answers.specs.Does.{offline_code, Decision, Leave, Complete, Give_up, Decline}
+use Rattle.cap_terminal_answers.specs.Sends.{message_of, Sending, Head, Batch_of, Ask, Ask_cancel, Diagnose, Report_status}
 use Rattle.cap_host_answers.specs.Received.{answer_received, reply_to, place_named}
 use Rattle.cap_schedule.specs.declared.outcome.Outcome.{Outcome}
 use Rattle.cap_schedule.specs.declared.outcome.Outcome.TheVariants as O

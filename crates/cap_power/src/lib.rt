@@ -12,8 +12,6 @@ mod reopening;
 mod set_up;
 mod settling;
 mod terminal;
-#[cfg(test)]
-mod tests;
 
 pub use arming::{armed, disarmed};
 pub use over_disk::OverDisk;

@@ -9,7 +9,7 @@ use Rattle.cap_schedule.specs.declared.schedule.HostOrder.TheVariants as H
 use Rattle.cap_schedule.specs.declared.schedule.Action.{Action}
 use Rattle.cap_schedule.specs.declared.schedule.Action.TheVariants.{AtTerminal, AtHost}
 use Rattle.cap_schedule.specs.declared.schedule.Line.{Line}
-use Rattle.cap_world.specs.World.{SetUpsMatch}
+use Rattle.cap_entries.specs.SetUps.{SetUpsMatch}
 use Rattle.cap_schedule.specs.Nobodys.{IsNoise, NoiseIsNobodys}
 use Rattle.cap_schedule.specs.Ranges.{ActionInRange}
 use Rattle.cap_plays.specs.Laws.{InRange}

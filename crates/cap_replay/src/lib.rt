@@ -14,6 +14,3 @@ pub use generator::{Tally, made};
 pub use making::make_over;
 pub use replaying::{ReplayFault, replay_over};
 pub use terminal_line::put_terminal_line;
-
-#[cfg(test)]
-mod tests;

@@ -17,7 +17,7 @@ use Rattle.cap_schedule.specs.declared.schedule.Schedule.{Schedule}
 use Rattle.cap_schedule.specs.SetUps.{is_named, is_party}
 use Rattle.cap_schedule.specs.Noise.{is_foreign, order_noise, host_noise, is_noise, is_allowed}
 use Rattle.cap_schedule.specs.Nobodys.{IsParty, IsNobodys, IsNoiseOfOrder, IsNoiseOfHostOrder, IsNoise}
-use Rattle.cap_world.specs.World.{SetUpsMatch}
+use Rattle.cap_entries.specs.SetUps.{SetUpsMatch}
 
 or_right : (a b : Bool) → b ≡ true → (a || b) ≡ true
 or_right true b e = refl

@@ -8,6 +8,8 @@ use Rattle.cap_base.specs.declared.codes.Response.TheVariants.{Appr, Decl, Part,
 use Rattle.cap_text.specs.Pieces.{number_of}
 use Rattle.cap_schedule.specs.declared.outcome.Outcome.{Outcome}
 use Rattle.cap_schedule.specs.declared.outcome.Outcome.TheVariants as O
+use Rattle.cap_schedule.specs.declared.outcome.Wording.{Wording}
+use Rattle.cap_schedule.specs.declared.outcome.Wording.TheVariants.{Words, Number, Two, Three, Letters, NumberLetters, LettersNumber, Answer}
 use Rattle.cap_schedule.specs.declared.schedule.Line.{Line}
 
 abbrev pub reason_text : Reason → List ℕ
@@ -35,6 +37,21 @@ spaced_number (Some n) = codes " " ++ decimal n
 abbrev pub spaced_reason : Option Reason → List ℕ
 spaced_reason None = []
 spaced_reason (Some reason) = codes " " ++ reason_text reason
+
+abbrev pub spaced_letters : Option (Ref (List ℕ)) → List ℕ
+spaced_letters None = []
+spaced_letters (Some letters) = codes " " ++ letters.now
+
+-- the text of an outcome's parts
+abbrev pub wording_text : Wording → List ℕ
+wording_text (Words words) = words.now
+wording_text (Number words n) = words.now ++ decimal n
+wording_text (Two words m n) = words.now ++ decimal m ++ codes " " ++ decimal n
+wording_text (Three words k m n) = words.now ++ decimal k ++ codes " " ++ decimal m ++ codes " " ++ decimal n
+wording_text (Letters words letters) = words.now ++ letters.now
+wording_text (NumberLetters words n letters) = words.now ++ decimal n ++ codes " " ++ letters.now
+wording_text (LettersNumber words letters n) = words.now ++ letters.now ++ codes " " ++ decimal n
+wording_text (Answer place kind letters) = codes "answered" ++ spaced_number place ++ codes " " ++ kind.now ++ spaced_letters letters
 
 abbrev pub outcome_text : Outcome → List ℕ
 outcome_text O.IsOff = codes "off"

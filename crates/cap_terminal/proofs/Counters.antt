@@ -3,7 +3,7 @@ use Rattle.std.proofs.Common.{◌≡◌, ℕ, ◌+◌, Bool, cond, List, [], ◌
 use Rattle.std.specs.Prelude.{count_by, fold}
 use Rattle.cap_entries.specs.declared.terminal.TermEntry.{TermEntry}
 use Rattle.cap_entries.specs.declared.terminal.TermEntry.TheVariants.{Setup, Begin, Declined, Completed, Voided, Cancelled, Closed, Acked, Part}
-use Rattle.cap_terminal.specs.Counts.{is_any_completed, is_any_cancelled, is_any_voided}
+use Rattle.cap_terminal_answers.specs.Counts.{is_any_completed, is_any_cancelled, is_any_voided}
 use Rattle.cap_terminal.specs.Index.{TerminalIndex, index_after, index_of, no_index}
 
 -- a number of the index that rises by one at each entry of a sort

@@ -21,13 +21,13 @@ use Rattle.cap_entries.specs.Items.{items}
 use Rattle.cap_entries.specs.Acked.{acked}
 use Rattle.cap_entries.specs.Allowed.{part_allowed}
 use Rattle.cap_entries.specs.RecordField.{is_count}
-use Rattle.cap_terminal.specs.declared.handled.TermFault.{TermFault}
-use Rattle.cap_terminal.specs.declared.handled.TermFault.TheVariants as fault
-use Rattle.cap_terminal.specs.declared.handled.TermFault.TheVariants.{NotAwaited, NotForUs, Stale, Beyond}
-use Rattle.cap_terminal.specs.declared.handled.Handled.{Handled}
-use Rattle.cap_terminal.specs.declared.handled.Handled.TheVariants.{Part as Part_handled}
-use Rattle.cap_terminal.specs.Takes.{Taken, refuses, is_awaited, acked_answer, take_acknowledgement, take_part, take_reply, is_for_us, takes}
-use Rattle.cap_terminal.specs.Plain.{IsTakenFine}
+use Rattle.cap_terminal_answers.specs.declared.handled.TermFault.{TermFault}
+use Rattle.cap_terminal_answers.specs.declared.handled.TermFault.TheVariants as fault
+use Rattle.cap_terminal_answers.specs.declared.handled.TermFault.TheVariants.{NotAwaited, NotForUs, Stale, Beyond}
+use Rattle.cap_terminal_answers.specs.declared.handled.Handled.{Handled}
+use Rattle.cap_terminal_answers.specs.declared.handled.Handled.TheVariants.{Part as Part_handled}
+use Rattle.cap_terminal_answers.specs.Takes.{Taken, refuses, is_awaited, acked_answer, take_acknowledgement, take_part, take_reply, is_for_us, takes}
+use Rattle.cap_terminal_answers.specs.Plain.{IsTakenFine}
 use Rattle.cap_terminal.specs.Causes.{IsAnswered, is_adding, MayTake, IsTakeCause, IsTakenCause}
 
 abbrev Fine : List TermEntry → Taken → Type 0

@@ -32,8 +32,8 @@ use Rattle.cap_base.specs.Item.{is_close}
 use Rattle.cap_base.specs.Captured.{totals}
 use Rattle.cap_entries.specs.Entry.{term_setup_of}
 use Rattle.cap_entries.specs.Floor.{floor}
-use Rattle.cap_terminal.specs.declared.counts.Counts.{Counts}
-use Rattle.cap_terminal.specs.Counts.{counts_of, is_any_completed, is_any_cancelled, is_any_voided}
+use Rattle.cap_terminal_answers.specs.declared.counts.Counts.{Counts}
+use Rattle.cap_terminal_answers.specs.Counts.{counts_of, is_any_completed, is_any_cancelled, is_any_voided}
 use Rattle.cap_terminal.specs.Running.{closed_at, nothing}
 use Rattle.cap_terminal.specs.SetsIndex.{floor_or}
 use Rattle.cap_terminal.proofs.Counters.{completed_is, cancelled_is, voided_is}

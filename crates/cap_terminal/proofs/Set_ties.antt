@@ -10,9 +10,9 @@ use Rattle.cap_entries.specs.InForce.{version_in_force_from, version_in_force, r
 use Rattle.cap_entries.specs.Floor.{is_floor_row, floor_row, or_else, setup_floor, floor}
 use Rattle.cap_entries.specs.Allowed.{allowed, part_allowed, is_legal}
 use Rattle.cap_entries.specs.AllowedLaws.{allowed_is}
-use Rattle.cap_terminal.specs.declared.part.PartNumbers.{PartNumbers}
+use Rattle.cap_terminal_answers.specs.declared.part.PartNumbers.{PartNumbers}
 use Rattle.cap_terminal.specs.declared.sets.Sets.{Sets}
-use Rattle.cap_terminal.specs.Numbers.{numbers_of, numbers_version, numbers_continue, numbers_allow, numbers_allow_is}
+use Rattle.cap_terminal_answers.specs.Numbers.{numbers_of, numbers_version, numbers_continue, numbers_allow, numbers_allow_is}
 use Rattle.cap_terminal.specs.SetsIndex.{floor_in, first_floor, floor_joined, sets_after, floor_or}
 use Rattle.cap_terminal.specs.Index.{TerminalIndex, index_after, index_of}
 use Rattle.cap_terminal.proofs.Growth.{index_push, along_legal}

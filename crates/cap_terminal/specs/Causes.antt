@@ -13,10 +13,10 @@ use Rattle.cap_terminal.specs.declared.faults.EntryFault.{EntryFault}
 use Rattle.cap_terminal.specs.declared.faults.EntryFault.TheVariants as entry
 use Rattle.cap_terminal.specs.declared.faults.AskFault.{AskFault}
 use Rattle.cap_terminal.specs.declared.faults.AskFault.TheVariants as ask
-use Rattle.cap_terminal.specs.declared.handled.Handled.{Handled}
-use Rattle.cap_terminal.specs.declared.handled.TermFault.{TermFault}
-use Rattle.cap_terminal.specs.declared.handled.TermFault.TheVariants as take
-use Rattle.cap_terminal.specs.Takes.{Taken}
+use Rattle.cap_terminal_answers.specs.declared.handled.Handled.{Handled}
+use Rattle.cap_terminal_answers.specs.declared.handled.TermFault.{TermFault}
+use Rattle.cap_terminal_answers.specs.declared.handled.TermFault.TheVariants as take
+use Rattle.cap_terminal_answers.specs.Takes.{Taken}
 
 -- the end of a sale whose token is live
 abbrev pub IsEntryCause : (has_failed : Bool) → EntryFault → Type 0

@@ -5,10 +5,10 @@ use Rattle.cap_journal.specs.File.{HasEither}
 use Rattle.cap_journal.specs.Seen.{EveryImage, IsTrying}
 use Rattle.cap_entries.specs.declared.terminal.TermEntry.{TermEntry}
 use Rattle.cap_entries.specs.TermRecord.{term_reading}
-use Rattle.cap_terminal.specs.declared.handled.Handled.{Handled}
-use Rattle.cap_terminal.specs.declared.handled.TermFault.{TermFault}
-use Rattle.cap_terminal.specs.declared.handled.TermFault.TheVariants.{Disk, Memory}
-use Rattle.cap_terminal.specs.Takes.{Taken}
+use Rattle.cap_terminal_answers.specs.declared.handled.Handled.{Handled}
+use Rattle.cap_terminal_answers.specs.declared.handled.TermFault.{TermFault}
+use Rattle.cap_terminal_answers.specs.declared.handled.TermFault.TheVariants.{Disk, Memory}
+use Rattle.cap_terminal_answers.specs.Takes.{Taken}
 use Rattle.cap_terminal.specs.Causes.{is_adding, MayTake, IsTakeCause}
 
 -- at Ok the stated entries are added, and the answer is the stated one; an entry is added only where no call has failed before. A refusal is the

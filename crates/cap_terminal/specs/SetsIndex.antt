@@ -3,7 +3,7 @@ use Rattle.std.specs.Prelude.{ℕ, ◌==◌, if◌then◌else◌, List, Option, 
 use Rattle.std.specs.List.{list_any}
 use Rattle.cap_base.specs.declared.parameters.Row.{Row}
 use Rattle.cap_entries.specs.Floor.{is_floor_row, floor_row, or_else}
-use Rattle.cap_terminal.specs.declared.part.PartNumbers.{PartNumbers}
+use Rattle.cap_terminal_answers.specs.declared.part.PartNumbers.{PartNumbers}
 use Rattle.cap_terminal.specs.declared.sets.Sets.{Sets}
 
 -- the money of the first row FLOOR, where there is such a row

@@ -1,4 +1,4 @@
-use crate::part::PartNumbers;
+use cap_terminal_answers::PartNumbers;
 use cap_base::{Account, Amount, Code6};
 
 /// What an entry changes in the index.

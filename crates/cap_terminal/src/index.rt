@@ -6,7 +6,7 @@ ghost use Rattle.cap_terminal.specs.Says.{sale_at};
 ghost use Rattle.cap_terminal.specs.Running.{counted, nothing, closed_at};
 ghost use Rattle.cap_terminal.specs.declared.sale_row.Stage.TheVariants.{Pending, Declined, Completed, Voided, Cancelled};
 
-use crate::part::PartNumbers;
+use cap_terminal_answers::PartNumbers;
 use crate::pending::Pending as PendingNumbers;
 use crate::sale_row::{SaleRow, Stage};
 use crate::sets::Sets;

@@ -8,11 +8,11 @@ ghost use Rattle.cap_entries.specs.InForce.{version_in_force};
 ghost use Rattle.cap_entries.specs.Floor.{floor};
 ghost use Rattle.cap_sale.specs.Tokens.{offline_code, approved_with};
 ghost use Rattle.cap_sale.specs.Refusals.{IsAuthRefusal};
-ghost use Rattle.cap_terminal.specs.Counts.{counts_of};
+ghost use Rattle.cap_terminal_answers.specs.Counts.{counts_of};
 ghost use Rattle.cap_terminal.specs.Live.{IsLive, PendsNoneFrom, IsLeastPending};
-ghost use Rattle.cap_terminal.specs.Takes.{queue_head};
+ghost use Rattle.cap_terminal_answers.specs.Takes.{queue_head};
 
-use crate::counts::Counts;
+use cap_terminal_answers::Counts;
 use crate::sale_row::Stage;
 use crate::terminal::Terminal;
 use cap_base::{Item, Totals};

@@ -12,10 +12,10 @@ ghost use Rattle.cap_plain.specs.Queue.{queue};
 ghost use Rattle.cap_terminal.specs.Live.{IsLive};
 ghost use Rattle.cap_terminal.specs.Causes.{IsAskCause};
 ghost use Rattle.cap_terminal.specs.Stands.{HasItems};
-ghost use Rattle.cap_terminal.specs.Sends.{Is_message, Sends, Head, Batch_of, Ask, Ask_cancel, Diagnose, Report_status, may_be_wanted};
+ghost use Rattle.cap_terminal_answers.specs.Sends.{Is_message, Sends, Head, Batch_of, Ask, Ask_cancel, Diagnose, Report_status, may_be_wanted};
 
 use crate::faults::AskFault;
-use crate::part::{part_number, version};
+use cap_terminal_answers::{part_number, version};
 use crate::terminal::Terminal;
 use cap_base::{DataSet, Item, Memory};
 use cap_batch_msgs::{BatchBody, Items};

@@ -4,7 +4,7 @@ ghost use Rattle.std.specs.List.{list_any};
 ghost use Rattle.cap_entries.specs.Floor.{is_floor_row};
 ghost use Rattle.cap_terminal.specs.SetsIndex.{floor_in, floor_joined, sets_after, floor_or};
 
-use crate::part::PartNumbers;
+use cap_terminal_answers::PartNumbers;
 use cap_base::Row;
 use cap_entries::floor_row;
 

@@ -18,14 +18,14 @@ use Rattle.cap_entries.specs.Acked.{acked}
 use Rattle.cap_entries.specs.Items.{items}
 use Rattle.cap_entries.specs.Allowed.{part_allowed}
 use Rattle.cap_sale.specs.declared.response.AuthResponse.{AuthResponse}
-use Rattle.cap_terminal.specs.declared.handled.Handled.{Handled}
-use Rattle.cap_terminal.specs.declared.handled.Handled.TheVariants as H
-use Rattle.cap_terminal.specs.declared.handled.TermFault.{TermFault}
-use Rattle.cap_terminal.specs.declared.handled.TermFault.TheVariants as F
+use Rattle.cap_terminal_answers.specs.declared.handled.Handled.{Handled}
+use Rattle.cap_terminal_answers.specs.declared.handled.Handled.TheVariants as H
+use Rattle.cap_terminal_answers.specs.declared.handled.TermFault.{TermFault}
+use Rattle.cap_terminal_answers.specs.declared.handled.TermFault.TheVariants as F
 use Rattle.cap_terminal.specs.Causes.{is_adding}
 use Rattle.cap_terminal.specs.Handles.{Handles}
-use Rattle.cap_terminal.specs.Does.{Decline}
-use Rattle.cap_terminal.specs.Takes.{Taken, IsNotOurs, refuses, takes, take_reply, take_acknowledgement, is_awaited, acked_answer, is_for_us}
+use Rattle.cap_terminal_answers.specs.Does.{Decline}
+use Rattle.cap_terminal_answers.specs.Takes.{Taken, IsNotOurs, refuses, takes, take_reply, take_acknowledgement, is_awaited, acked_answer, is_for_us}
 use Rattle.cap_schedule.specs.declared.outcome.Outcome.{Outcome}
 use Rattle.cap_schedule.specs.declared.outcome.Outcome.TheVariants as O
 use Rattle.cap_world.specs.World.{TerminalState, TerminalAction}

@@ -10,7 +10,7 @@ use Rattle.cap_entries.specs.declared.terminal.TermEntry.{TermEntry}
 use Rattle.cap_entries.specs.TermRecord.{term_reading}
 use Rattle.cap_schedule.specs.declared.outcome.Outcome.{Outcome}
 use Rattle.cap_schedule.specs.declared.outcome.Outcome.TheVariants as O
-use Rattle.cap_terminal.specs.Sends.{Sending, message_of}
+use Rattle.cap_terminal_answers.specs.Sends.{Sending, message_of}
 use Rattle.cap_world.specs.World.{TerminalState, TerminalAction, Sends_message}
 use Rattle.cap_plays.specs.declared.fault.LineFault.{LineFault}
 use Rattle.cap_plays.specs.declared.fault.LineFault.TheVariants.{Disk, Memory}

@@ -9,7 +9,7 @@ use Rattle.cap_msgs.specs.Received.{Received}
 use Rattle.cap_msgs.specs.Moment.{IsMoment}
 use Rattle.cap_entries.specs.declared.terminal.TermEntry.{TermEntry}
 use Rattle.cap_entries.specs.TermRecord.{term_reading}
-use Rattle.cap_terminal.specs.Takes.{IsNotOurs}
+use Rattle.cap_terminal_answers.specs.Takes.{IsNotOurs}
 use Rattle.cap_schedule.specs.declared.outcome.Outcome.{Outcome}
 use Rattle.cap_schedule.specs.declared.schedule.Order.{Order}
 use Rattle.cap_schedule.specs.declared.schedule.Order.TheVariants.{Hear}

@@ -6,11 +6,11 @@ use Rattle.cap_msgs.specs.Received.{Received}
 use Rattle.cap_msgs.specs.Reads.{Reads}
 use Rattle.cap_entries.specs.declared.terminal.TermEntry.{TermEntry}
 use Rattle.cap_sale.specs.declared.response.AuthResponse.{AuthResponse}
-use Rattle.cap_terminal.specs.declared.handled.Handled.{Handled}
-use Rattle.cap_terminal.specs.declared.handled.Handled.TheVariants.{Authorisation}
-use Rattle.cap_terminal.specs.declared.handled.TermFault.{TermFault}
-use Rattle.cap_terminal.specs.declared.handled.TermFault.TheVariants as F
-use Rattle.cap_terminal.specs.Takes.{takes}
+use Rattle.cap_terminal_answers.specs.declared.handled.Handled.{Handled}
+use Rattle.cap_terminal_answers.specs.declared.handled.Handled.TheVariants.{Authorisation}
+use Rattle.cap_terminal_answers.specs.declared.handled.TermFault.{TermFault}
+use Rattle.cap_terminal_answers.specs.declared.handled.TermFault.TheVariants as F
+use Rattle.cap_terminal_answers.specs.Takes.{takes}
 use Rattle.cap_schedule.specs.declared.outcome.Outcome.{Outcome}
 use Rattle.cap_world.specs.World.{TerminalState, TerminalAction}
 use Rattle.cap_plays.specs.declared.fault.LineFault.{LineFault}

@@ -12,6 +12,3 @@ mod sends;
 pub use acting::act;
 pub use cap_plays::LineFault;
 pub use said::Said;
-
-#[cfg(test)]
-mod tests;

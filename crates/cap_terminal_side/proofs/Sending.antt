@@ -12,7 +12,7 @@ use Rattle.cap_entries.specs.Allowed.{allowed}
 use Rattle.cap_entries.specs.Floor.{floor}
 use Rattle.cap_host_ledger.specs.Ledger.{calls_for}
 use Rattle.cap_plain.specs.Queue.{queue}
-use Rattle.cap_terminal.specs.Takes.{queue_head}
+use Rattle.cap_terminal_answers.specs.Takes.{queue_head}
 use Rattle.cap_schedule.specs.declared.outcome.Outcome.{Outcome}
 use Rattle.cap_schedule.specs.declared.outcome.Outcome.TheVariants.{WasCut}
 use Rattle.cap_schedule.specs.declared.schedule.Order.{Order}

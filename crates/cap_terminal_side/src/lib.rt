@@ -3,7 +3,5 @@
 
 mod keeping;
 mod side;
-#[cfg(test)]
-mod tests;
 
 pub use side::{DiskTerminal, Side};

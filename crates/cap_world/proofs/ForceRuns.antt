@@ -30,11 +30,12 @@ use Rattle.cap_entries.specs.AllowedLaws.{all_allowed_front, all_allowed_back, a
 use Rattle.cap_manager.specs.Manager.{newest_part, answer_status}
 use Rattle.cap_host_answers.specs.Answer.{Answered, is_approved, answer_request, answer_data, answer_report}
 use Rattle.cap_host_answers.specs.Received.{answer_received, Replies}
-use Rattle.cap_terminal.specs.declared.handled.Handled.{Handled}
-use Rattle.cap_terminal.specs.declared.handled.TermFault.{TermFault}
-use Rattle.cap_terminal.specs.Takes.{Taken, is_awaited, take_acknowledgement, take_reply, is_for_us, takes}
-use Rattle.cap_terminal.specs.Does.{Decision, Leave, Complete, Give_up, Decline, Decides}
-use Rattle.cap_world.specs.World.{TerminalState, World, TerminalAction, Begins, Offline, Gives_up, Cancels, Closes, Sends_message, Takes_answer, Hears_foreign, TerminalDoes, Event, Acts, Interrupted, Restart, Interrupted_restart, TerminalStep, HostAction, Answers, Answers_foreign, Publishes, HostDoes, delivered, HostStep, Happening, At_terminal, At_host, Step, started, first, SetUpsMatch, Run}
+use Rattle.cap_terminal_answers.specs.declared.handled.Handled.{Handled}
+use Rattle.cap_terminal_answers.specs.declared.handled.TermFault.{TermFault}
+use Rattle.cap_terminal_answers.specs.Takes.{Taken, is_awaited, take_acknowledgement, take_reply, is_for_us, takes}
+use Rattle.cap_terminal_answers.specs.Does.{Decision, Leave, Complete, Give_up, Decline, Decides}
+use Rattle.cap_world.specs.World.{TerminalState, World, TerminalAction, Begins, Offline, Gives_up, Cancels, Closes, Sends_message, Takes_answer, Hears_foreign, TerminalDoes, Event, Acts, Interrupted, Restart, Interrupted_restart, TerminalStep, HostAction, Answers, Answers_foreign, Publishes, HostDoes, delivered, HostStep, Happening, At_terminal, At_host, Step, started, first, Run}
+use Rattle.cap_entries.specs.SetUps.{SetUpsMatch}
 use Rattle.std.specs.Prelude.{Result}
 use Rattle.cap_world.proofs.Named.{all_append, all_front, all_back, all_kept, all_at, all_weaker, delivered_cases, set_cases}
 use Rattle.cap_world.proofs.Parties.{RejectedOnly, foreign_is_rejected, rejection_reply}

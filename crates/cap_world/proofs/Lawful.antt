@@ -30,12 +30,13 @@ use Rattle.cap_manager.specs.Manager.{answer_status}
 use Rattle.cap_host_answers.specs.Answer.{Answered, is_approved, answer_request, answer_data, answer_report, answer_of}
 use Rattle.cap_host_answers.specs.Received.{answer_received, Replies}
 use Rattle.cap_sale.specs.declared.response.AuthResponse.{AuthResponse}
-use Rattle.cap_terminal.specs.declared.handled.Handled.{Handled}
-use Rattle.cap_terminal.specs.declared.handled.Handled.TheVariants.{Authorisation}
-use Rattle.cap_terminal.specs.declared.handled.TermFault.{TermFault}
-use Rattle.cap_terminal.specs.Takes.{Taken, is_awaited, acked_answer, take_acknowledgement, take_reply, is_for_us, takes}
-use Rattle.cap_terminal.specs.Does.{offline_code, Decision, Leave, Complete, Give_up, Decline, Decides}
-use Rattle.cap_world.specs.World.{TerminalState, World, TerminalAction, Begins, Offline, Gives_up, Cancels, Closes, Sends_message, Takes_answer, Hears_foreign, TerminalDoes, Event, Acts, Interrupted, Restart, Interrupted_restart, TerminalStep, HostAction, Answers, Answers_foreign, Publishes, HostDoes, HostStep, Happening, At_terminal, At_host, Step, first, SetUpsMatch, Run, May}
+use Rattle.cap_terminal_answers.specs.declared.handled.Handled.{Handled}
+use Rattle.cap_terminal_answers.specs.declared.handled.Handled.TheVariants.{Authorisation}
+use Rattle.cap_terminal_answers.specs.declared.handled.TermFault.{TermFault}
+use Rattle.cap_terminal_answers.specs.Takes.{Taken, is_awaited, acked_answer, take_acknowledgement, take_reply, is_for_us, takes}
+use Rattle.cap_terminal_answers.specs.Does.{offline_code, Decision, Leave, Complete, Give_up, Decline, Decides}
+use Rattle.cap_world.specs.World.{TerminalState, World, TerminalAction, Begins, Offline, Gives_up, Cancels, Closes, Sends_message, Takes_answer, Hears_foreign, TerminalDoes, Event, Acts, Interrupted, Restart, Interrupted_restart, TerminalStep, HostAction, Answers, Answers_foreign, Publishes, HostDoes, HostStep, Happening, At_terminal, At_host, Step, first, Run, May}
+use Rattle.cap_entries.specs.SetUps.{SetUpsMatch}
 use Rattle.std.specs.Prelude.{Result, Ok}
 use Rattle.cap_world.proofs.Named.{all_append, all_at, delivered_cases, set_cases, started_cases, setup_kept}
 use Rattle.cap_world.proofs.Sound.{AnswerOk, answer_more, sent_more}

@@ -14,8 +14,9 @@ use Rattle.cap_entries.specs.declared.host.HostEntry.TheVariants.{Setup as Host_
 use Rattle.cap_entries.specs.Entry.{term_setup_of}
 use Rattle.cap_entries.specs.Log.{setup_of}
 use Rattle.cap_host_answers.specs.Received.{place_from, place_of}
-use Rattle.cap_terminal.specs.Sends.{Sending, Head, Batch_of, Ask, Ask_cancel, Diagnose, Report_status, Sends}
-use Rattle.cap_world.specs.World.{TerminalState, World, TerminalAction, Begins, Offline, Gives_up, Cancels, Closes, Sends_message, Takes_answer, Hears_foreign, TerminalDoes, Event, Acts, Interrupted, Restart, Interrupted_restart, TerminalStep, HostAction, delivered, HostStep, Happening, At_terminal, At_host, Step, started, first, SetUpsMatch, Run}
+use Rattle.cap_terminal_answers.specs.Sends.{Sending, Head, Batch_of, Ask, Ask_cancel, Diagnose, Report_status, Sends}
+use Rattle.cap_world.specs.World.{TerminalState, World, TerminalAction, Begins, Offline, Gives_up, Cancels, Closes, Sends_message, Takes_answer, Hears_foreign, TerminalDoes, Event, Acts, Interrupted, Restart, Interrupted_restart, TerminalStep, HostAction, delivered, HostStep, Happening, At_terminal, At_host, Step, started, first, Run}
+use Rattle.cap_entries.specs.SetUps.{SetUpsMatch}
 
 -- facts about each element of a list
 module _ {X : Type 0} (P : X → Type 0) where

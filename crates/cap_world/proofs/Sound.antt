@@ -20,11 +20,11 @@ use Rattle.cap_entries.specs.Allowed.{part_allowed}
 use Rattle.cap_entries.specs.Log.{log}
 use Rattle.cap_entries.specs.Fronts.{IsPrefixOf, prefix_trans}
 use Rattle.cap_entries.specs.ItemsLaws.{items_grow}
-use Rattle.cap_terminal.specs.declared.handled.Handled.{Handled}
-use Rattle.cap_terminal.specs.declared.handled.TermFault.{TermFault}
-use Rattle.cap_terminal.specs.Takes.{Taken, is_awaited, take_acknowledgement, take_reply, is_for_us, takes}
-use Rattle.cap_terminal.specs.Does.{Decision, Leave, Complete, Give_up, Decline, Decides}
-use Rattle.cap_terminal.specs.Sends.{Sending, Head, Batch_of, Ask, Ask_cancel, Diagnose, Report_status, Sends}
+use Rattle.cap_terminal_answers.specs.declared.handled.Handled.{Handled}
+use Rattle.cap_terminal_answers.specs.declared.handled.TermFault.{TermFault}
+use Rattle.cap_terminal_answers.specs.Takes.{Taken, is_awaited, take_acknowledgement, take_reply, is_for_us, takes}
+use Rattle.cap_terminal_answers.specs.Does.{Decision, Leave, Complete, Give_up, Decline, Decides}
+use Rattle.cap_terminal_answers.specs.Sends.{Sending, Head, Batch_of, Ask, Ask_cancel, Diagnose, Report_status, Sends}
 use Rattle.cap_world.specs.World.{TerminalState, HostState, TerminalAction, Begins, Offline, Gives_up, Cancels, Closes, Sends_message, Takes_answer, Hears_foreign, TerminalDoes}
 use Rattle.cap_world.proofs.Named.{all_append, all_kept, all_at, all_weaker}
 use Rattle.std.specs.Prelude.{Result}

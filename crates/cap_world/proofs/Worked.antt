@@ -1,6 +1,6 @@
 -- The two small runs, computed.
 use Rattle.std.proofs.Common.{[], ◌∷◌, refl, lit<, lit≤}
-use Rattle.cap_world.specs.World.{SetUpsMatch}
+use Rattle.cap_entries.specs.SetUps.{SetUpsMatch}
 use Rattle.cap_world.specs.Worked.{small_host, small_terminal, first_sale, interrupted_sale, FirstSaleIsARun, InterruptedSaleIsARun}
 
 matching : SetUpsMatch small_host (small_terminal ∷ [])

@@ -15,12 +15,13 @@ use Rattle.cap_entries.specs.Settings.{TerminalSettings, HostSettings}
 use Rattle.cap_entries.specs.declared.terminal.TermEntry.{TermEntry}
 use Rattle.cap_entries.specs.declared.host.HostEntry.{HostEntry}
 use Rattle.cap_host_answers.specs.Received.{answer_received}
-use Rattle.cap_terminal.specs.declared.handled.Handled.{Handled}
-use Rattle.cap_terminal.specs.declared.handled.Handled.TheVariants.{Reconciled}
-use Rattle.cap_terminal.specs.declared.handled.TermFault.{TermFault}
-use Rattle.cap_terminal.specs.declared.handled.TermFault.TheVariants.{Beyond}
-use Rattle.cap_terminal.specs.Takes.{takes}
-use Rattle.cap_world.specs.World.{World, TerminalState, Happening, SetUpsMatch, first, Run, May}
+use Rattle.cap_terminal_answers.specs.declared.handled.Handled.{Handled}
+use Rattle.cap_terminal_answers.specs.declared.handled.Handled.TheVariants.{Reconciled}
+use Rattle.cap_terminal_answers.specs.declared.handled.TermFault.{TermFault}
+use Rattle.cap_terminal_answers.specs.declared.handled.TermFault.TheVariants.{Beyond}
+use Rattle.cap_terminal_answers.specs.Takes.{takes}
+use Rattle.cap_world.specs.World.{World, TerminalState, Happening, first, Run, May}
+use Rattle.cap_entries.specs.SetUps.{SetUpsMatch}
 
 -- the approval of an item; of a closing with the terminal's own totals
 abbrev pub approval_of : Item → Body

@@ -5,7 +5,8 @@ use Rattle.cap_entries.specs.declared.terminal.TermEntry.{TermEntry}
 use Rattle.cap_entries.specs.declared.host.HostEntry.{HostEntry}
 use Rattle.cap_entries.specs.Log.{log}
 use Rattle.cap_plain.specs.Agreed.{Agreed}
-use Rattle.cap_world.specs.World.{TerminalState, World, Happening, SetUpsMatch, first, Run, May}
+use Rattle.cap_world.specs.World.{TerminalState, World, Happening, first, Run, May}
+use Rattle.cap_entries.specs.SetUps.{SetUpsMatch}
 
 -- in every world of every run, whatever a power cut may have left at either end
 abbrev pub EveryRunAgrees : Type 0

@@ -10,8 +10,9 @@ use Rattle.cap_entries.specs.declared.terminal.TermEntry.TheVariants.{Completed}
 use Rattle.cap_entries.specs.Entry.{amount_of, account_of}
 use Rattle.cap_entries.specs.Floor.{floor}
 use Rattle.cap_host_answers.specs.Answer.{is_approved}
-use Rattle.cap_terminal.specs.Does.{offline_code}
-use Rattle.cap_world.specs.World.{World, TerminalState, Happening, SetUpsMatch, first, Run, May}
+use Rattle.cap_terminal_answers.specs.Does.{offline_code}
+use Rattle.cap_world.specs.World.{World, TerminalState, Happening, first, Run, May}
+use Rattle.cap_entries.specs.SetUps.{SetUpsMatch}
 
 -- by the terminal itself, within the floor that was in force at that step
 pub record ApprovedOffline (before : List TermEntry) (n : ℕ) (code : List ℕ) : Type 0 where

@@ -5,7 +5,8 @@ use Rattle.cap_entries.specs.declared.terminal.TermEntry.{TermEntry}
 use Rattle.cap_entries.specs.declared.host.HostEntry.{HostEntry}
 use Rattle.cap_entries.specs.Allowed.{Legal}
 use Rattle.cap_entries.specs.HostAllowed.{LegalHost}
-use Rattle.cap_world.specs.World.{World, TerminalState, Happening, SetUpsMatch, first, Run, May}
+use Rattle.cap_world.specs.World.{World, TerminalState, Happening, first, Run, May}
+use Rattle.cap_entries.specs.SetUps.{SetUpsMatch}
 
 abbrev pub EveryTerminalJournalIsLegal : Type 0
 EveryTerminalJournalIsLegal =

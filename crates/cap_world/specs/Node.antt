@@ -9,9 +9,10 @@ use Rattle.cap_entries.specs.declared.host.HostEntry.{HostEntry}
 use Rattle.cap_entries.specs.declared.host.HostEntry.TheVariants.{Published}
 use Rattle.cap_entries.specs.Log.{published}
 use Rattle.cap_host_answers.specs.Received.{answer_received, Replies, place_named, IsForeign}
-use Rattle.cap_terminal.specs.Takes.{takes, IsNotOurs}
-use Rattle.cap_terminal.specs.Does.{Decision, Decides}
-use Rattle.cap_world.specs.World.{TerminalState, World, TerminalAction, Takes_answer, Hears_foreign, TerminalDoes, Event, Acts, Interrupted, Restart, Interrupted_restart, TerminalStep, HostStep, delivered, Happening, SetUpsMatch, first, Run}
+use Rattle.cap_terminal_answers.specs.Takes.{takes, IsNotOurs}
+use Rattle.cap_terminal_answers.specs.Does.{Decision, Decides}
+use Rattle.cap_world.specs.World.{TerminalState, World, TerminalAction, Takes_answer, Hears_foreign, TerminalDoes, Event, Acts, Interrupted, Restart, Interrupted_restart, TerminalStep, HostStep, delivered, Happening, first, Run}
+use Rattle.cap_entries.specs.SetUps.{SetUpsMatch}
 
 -- a terminal at work: its own actions, and what arrives, whatever it is
 pub data TerminalTask : Type 0 where

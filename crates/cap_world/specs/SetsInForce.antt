@@ -5,7 +5,8 @@ use Rattle.cap_entries.specs.declared.terminal.TermEntry.{TermEntry}
 use Rattle.cap_entries.specs.declared.host.HostEntry.{HostEntry}
 use Rattle.cap_entries.specs.InForce.{version_in_force, rows_in_force}
 use Rattle.cap_entries.specs.Log.{published}
-use Rattle.cap_world.specs.World.{World, TerminalState, Happening, SetUpsMatch, first, Run, May}
+use Rattle.cap_world.specs.World.{World, TerminalState, Happening, first, Run, May}
+use Rattle.cap_entries.specs.SetUps.{SetUpsMatch}
 
 -- version 0, or a set that was published, with exactly its rows
 abbrev pub SetIsPublished : List HostEntry → List TermEntry → Type 0

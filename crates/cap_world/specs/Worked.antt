@@ -8,9 +8,10 @@ use Rattle.cap_entries.specs.Settings.{TerminalSettings, HostSettings}
 use Rattle.cap_entries.specs.Items.{items}
 use Rattle.cap_entries.specs.Acked.{acked}
 use Rattle.cap_entries.specs.Log.{log}
-use Rattle.cap_terminal.specs.Does.{Leave}
-use Rattle.cap_terminal.specs.Sends.{Head}
-use Rattle.cap_world.specs.World.{TerminalState, World, Begins, Offline, Gives_up, Sends_message, Takes_answer, Acts, Interrupted, Restart, Answers, Happening, At_terminal, At_host, SetUpsMatch, first, Run}
+use Rattle.cap_terminal_answers.specs.Does.{Leave}
+use Rattle.cap_terminal_answers.specs.Sends.{Head}
+use Rattle.cap_world.specs.World.{TerminalState, World, Begins, Offline, Gives_up, Sends_message, Takes_answer, Acts, Interrupted, Restart, Answers, Happening, At_terminal, At_host, first, Run}
+use Rattle.cap_entries.specs.SetUps.{SetUpsMatch}
 
 abbrev pub small_start : DateParts
 small_start = record { year = 2024; month = 1; day = 1; hour = 0; minute = 0; second = 0; millis = None; zone = Utc }

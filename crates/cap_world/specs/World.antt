@@ -1,20 +1,19 @@
 -- The world of one host and its terminals, and what may happen in it.
 use Rattle.std.specs.Prelude.{◌≡◌, ℕ, zero, suc, ◌+◌, ◌<◌, Bool, true, false, List, [], ◌∷◌, ◌++◌, length, take, map, Option, Some, None, slice_get, slice_set}
-use Rattle.std.specs.List.{AllByRecursion}
 use Rattle.std.proofs.Common.{subst, refl}
 use Rattle.cap_base.specs.declared.parameters.Row.{Row}
 use Rattle.cap_msgs.specs.declared.message.Message.{Message}
 use Rattle.cap_msgs.specs.Received.{Received, Read}
-use Rattle.cap_entries.specs.Settings.{TerminalSettings, HostSettings, is_terminal_settings, is_host_settings}
+use Rattle.cap_entries.specs.Settings.{TerminalSettings, HostSettings}
 use Rattle.cap_entries.specs.declared.terminal.TermEntry.{TermEntry}
 use Rattle.cap_entries.specs.declared.terminal.TermEntry.TheVariants.{Setup}
 use Rattle.cap_entries.specs.declared.host.HostEntry.{HostEntry}
 use Rattle.cap_entries.specs.declared.host.HostEntry.TheVariants.{Setup as Host_setup, Published}
 use Rattle.cap_entries.specs.Log.{published}
 use Rattle.cap_host_answers.specs.Received.{answer_received, Replies, place_named, IsForeign}
-use Rattle.cap_terminal.specs.Takes.{takes, IsNotOurs}
-use Rattle.cap_terminal.specs.Does.{Begins_sale, Completes_offline, Gives_up_sale, Cancels_sale, Closes_period, Decision, Decides}
-use Rattle.cap_terminal.specs.Sends.{Sending, Sends}
+use Rattle.cap_terminal_answers.specs.Takes.{takes, IsNotOurs}
+use Rattle.cap_terminal_answers.specs.Does.{Begins_sale, Completes_offline, Gives_up_sale, Cancels_sale, Closes_period, Decision, Decides}
+use Rattle.cap_terminal_answers.specs.Sends.{Sending, Sends}
 
 -- a terminal: its journal, what an interrupted call may have added, whether it is on, and every message that it sent or was sent
 pub record TerminalState : Type 0 where
@@ -155,13 +154,6 @@ first host terminals = record {
   host = record { settled = Host_setup host ∷ []; tried = []; on = true };
   terminals = map started terminals;
 }
-
--- the set-ups name each other, and each keeps its own rule; names of terminals differ by the host's
-pub record SetUpsMatch (host : HostSettings) (terminals : List TerminalSettings) : Type 0 where
-  pub names : host.terminals ≡ map (λ settings. settings.terminal) terminals
-  pub hosts : AllByRecursion (λ settings. settings.host ≡ host.host) terminals
-  pub rules : AllByRecursion (λ settings. is_terminal_settings settings ≡ true) terminals
-  pub host_rule : is_host_settings host ≡ true
 
 -- these happenings lead from one world to the other
 abbrev pub Run : World → List Happening → World → Type 0

@@ -1,6 +1,6 @@
 use Rattle.std.proofs.Common.{◌≡◌, ℕ, ◌≤◌, List, [], refl, false, sym, subst, arith}
 use Rattle.cap_entries.specs.declared.terminal.TermEntry.{TermEntry}
-use Rattle.cap_terminal.specs.Takes.{IsNotOurs}
+use Rattle.cap_terminal_answers.specs.Takes.{IsNotOurs}
 use Rattle.cap_schedule.specs.declared.schedule.Order.{Order}
 use Rattle.cap_schedule.specs.declared.schedule.Order.TheVariants as T
 use Rattle.cap_world.specs.World.{Hears_foreign}

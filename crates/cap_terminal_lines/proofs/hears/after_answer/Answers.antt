@@ -1,6 +1,6 @@
 use Rattle.std.proofs.Common.{◌≡◌, [], None, Ok, refl, false, sym, subst, ap, ◌∙◌}
 use Rattle.std.proofs.lemmas.Option.{none-some}
-use Rattle.cap_terminal.specs.declared.handled.Handled.{Handled}
+use Rattle.cap_terminal_answers.specs.declared.handled.Handled.{Handled}
 use Rattle.cap_plays.specs.Turns.{Decided, makes, on_handled}
 use Rattle.cap_terminal_lines.specs.declared.said.Said.{Said}
 use Rattle.cap_plays.specs.Texts.{IsSent}

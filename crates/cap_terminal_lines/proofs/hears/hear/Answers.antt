@@ -1,9 +1,9 @@
 use Rattle.std.proofs.Common.{◌≡◌, [], ◌++◌, Err, sym, subst}
 use Rattle.std.specs.Prelude.{Result, OnOk, IsErrOf}
-use Rattle.cap_terminal.specs.Takes.{takes}
-use Rattle.cap_terminal.specs.declared.handled.Handled.{Handled}
-use Rattle.cap_terminal.specs.declared.handled.TermFault.{TermFault}
-use Rattle.cap_terminal.specs.declared.handled.TermFault.TheVariants as F
+use Rattle.cap_terminal_answers.specs.Takes.{takes}
+use Rattle.cap_terminal_answers.specs.declared.handled.Handled.{Handled}
+use Rattle.cap_terminal_answers.specs.declared.handled.TermFault.{TermFault}
+use Rattle.cap_terminal_answers.specs.declared.handled.TermFault.TheVariants as F
 use Rattle.cap_plays.specs.declared.fault.LineFault.{LineFault}
 use Rattle.cap_plays.specs.Turns.{makes, decides_on}
 use Rattle.cap_terminal_lines.specs.declared.said.Said.{Said}

@@ -6,7 +6,7 @@ use Rattle.cap_msgs.specs.declared.message.Body.TheVariants.{Sale as Of_sale}
 use Rattle.cap_entries.specs.declared.terminal.TermEntry.{TermEntry}
 use Rattle.cap_entries.specs.Entry.{is_pending, amount_of, account_of}
 use Rattle.cap_sale.specs.Tokens.{BegunSale}
-use Rattle.cap_terminal.specs.Sends.{message_of, Sends, Ask}
+use Rattle.cap_terminal_answers.specs.Sends.{message_of, Sends, Ask}
 use Rattle.cap_schedule.specs.declared.outcome.Outcome.TheVariants as O
 use Rattle.cap_plays.specs.Turns.{Turn, says, sends}
 use Rattle.cap_terminal_lines.specs.Acts.{LineDone}

@@ -6,7 +6,7 @@ use Rattle.cap_entries.specs.declared.terminal.TermEntry.{TermEntry}
 use Rattle.cap_entries.specs.declared.terminal.TermEntry.TheVariants.{Cancelled}
 use Rattle.cap_entries.specs.Entry.{amount_of}
 use Rattle.cap_entries.specs.Allowed.{allowed}
-use Rattle.cap_terminal.specs.Sends.{message_of, Ask_cancel}
+use Rattle.cap_terminal_answers.specs.Sends.{message_of, Ask_cancel}
 use Rattle.cap_terminal.specs.Causes.{IsAskCause}
 use Rattle.cap_terminal.specs.declared.faults.AskFault.{AskFault}
 use Rattle.cap_schedule.specs.declared.outcome.Outcome.TheVariants as O

@@ -8,7 +8,7 @@ use Rattle.cap_entries.specs.declared.terminal.TermEntry.{TermEntry}
 use Rattle.cap_entries.specs.Acked.{acked}
 use Rattle.cap_entries.specs.Items.{items}
 use Rattle.cap_plain.specs.Queue.{queue}
-use Rattle.cap_terminal.specs.Sends.{message_of, Sends, Batch_of}
+use Rattle.cap_terminal_answers.specs.Sends.{message_of, Sends, Batch_of}
 use Rattle.cap_schedule.specs.declared.outcome.Outcome.TheVariants as O
 use Rattle.cap_plays.specs.Turns.{Turn, says, sends}
 use Rattle.cap_terminal_lines.specs.Acts.{LineDone}

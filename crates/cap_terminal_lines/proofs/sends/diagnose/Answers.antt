@@ -3,7 +3,7 @@ use Rattle.cap_batch_msgs.specs.declared.body.BatchBody.TheVariants.{Diagnostic}
 use Rattle.cap_msgs.specs.declared.message.Body.TheVariants.{Batch as Of_batch}
 use Rattle.cap_entries.specs.declared.terminal.TermEntry.{TermEntry}
 use Rattle.cap_entries.specs.Acked.{acked}
-use Rattle.cap_terminal.specs.Sends.{message_of, Diagnose}
+use Rattle.cap_terminal_answers.specs.Sends.{message_of, Diagnose}
 use Rattle.cap_plays.specs.Turns.{Turn}
 use Rattle.cap_terminal_lines.specs.Acts.{LineDone}
 use Rattle.cap_terminal_lines.proofs.Quiet.{sent_line}

@@ -6,8 +6,8 @@ use Rattle.cap_msgs.specs.Report.{advice_of}
 use Rattle.cap_entries.specs.declared.terminal.TermEntry.{TermEntry}
 use Rattle.cap_entries.specs.Acked.{acked}
 use Rattle.cap_entries.specs.Items.{items}
-use Rattle.cap_terminal.specs.Takes.{queue_head}
-use Rattle.cap_terminal.specs.Sends.{message_of, Head}
+use Rattle.cap_terminal_answers.specs.Takes.{queue_head}
+use Rattle.cap_terminal_answers.specs.Sends.{message_of, Head}
 use Rattle.cap_schedule.specs.declared.outcome.Outcome.TheVariants as O
 use Rattle.cap_plays.specs.Turns.{Turn, sends_head}
 use Rattle.cap_terminal_lines.specs.Acts.{LineDone}

@@ -3,7 +3,7 @@ use Rattle.cap_mgmt_msgs.specs.declared.body.MgmtBody.TheVariants.{Status}
 use Rattle.cap_msgs.specs.declared.message.Body.TheVariants.{Management as Of_management}
 use Rattle.cap_entries.specs.declared.terminal.TermEntry.{TermEntry}
 use Rattle.cap_entries.specs.InForce.{version_in_force, staged_from, staged_version, staged_count}
-use Rattle.cap_terminal.specs.Sends.{message_of, Report_status}
+use Rattle.cap_terminal_answers.specs.Sends.{message_of, Report_status}
 use Rattle.cap_plays.specs.Turns.{Turn}
 use Rattle.cap_terminal_lines.specs.Acts.{LineDone}
 use Rattle.cap_terminal_lines.proofs.Quiet.{sent_line}

@@ -1,6 +1,6 @@
 use Rattle.std.proofs.Common.{◌≡◌, length, ◌∙◌, arith, subst}
-use Rattle.cap_terminal.specs.declared.counts.Counts.{Counts}
-use Rattle.cap_terminal.specs.Counts.{counts_of}
+use Rattle.cap_terminal_answers.specs.declared.counts.Counts.{Counts}
+use Rattle.cap_terminal_answers.specs.Counts.{counts_of}
 use Rattle.cap_terminal.proofs.Room_laws.{counts_here}
 use Rattle.cap_terminal.proofs.terminal.Terminal.counts.Goals as goal
 

@@ -5,8 +5,8 @@ use Rattle.cap_entries.specs.TermRecord.{term_reading}
 use Rattle.cap_msgs.specs.declared.error.DecodeError.{DecodeError}
 use Rattle.cap_msgs.specs.Unread.{IsUnread}
 use Rattle.cap_msgs.specs.Received.{Received, Read, Unread}
-use Rattle.cap_terminal.specs.declared.handled.TermFault.TheVariants as fault
-use Rattle.cap_terminal.specs.Takes.{takes}
+use Rattle.cap_terminal_answers.specs.declared.handled.TermFault.TheVariants as fault
+use Rattle.cap_terminal_answers.specs.Takes.{takes}
 use Rattle.cap_terminal.specs.Handles.{Handles}
 use Rattle.cap_terminal.proofs.Fine.{disk_not_answered, none_tried}
 use Rattle.cap_terminal.proofs.Moments.{leaves_now}

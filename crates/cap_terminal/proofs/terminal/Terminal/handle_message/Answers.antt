@@ -4,8 +4,8 @@ use Rattle.cap_disk.specs.Disk.{LeavesOnly}
 use Rattle.cap_journal.specs.File.{HasEither}
 use Rattle.cap_journal.specs.Seen.{EveryImage, IsTrying}
 use Rattle.cap_entries.specs.TermRecord.{term_reading}
-use Rattle.cap_terminal.specs.declared.handled.TermFault.TheVariants as fault
-use Rattle.cap_terminal.specs.Takes.{Taken}
+use Rattle.cap_terminal_answers.specs.declared.handled.TermFault.TheVariants as fault
+use Rattle.cap_terminal_answers.specs.Takes.{Taken}
 use Rattle.cap_terminal.specs.Causes.{is_adding, MayTake, IsTakeCause}
 use Rattle.cap_terminal.proofs.terminal.Terminal.handle_message.Goals as goal
 

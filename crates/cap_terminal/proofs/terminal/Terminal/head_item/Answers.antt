@@ -2,7 +2,7 @@ use Rattle.std.proofs.Common.{◌≡◌, ℕ, List, ◌∙◌, ap, subst}
 use Rattle.std.specs.Prelude.{slice_get}
 use Rattle.cap_base.specs.declared.item.Item.{Item}
 use Rattle.cap_entries.specs.Items.{items}
-use Rattle.cap_terminal.specs.Takes.{queue_head}
+use Rattle.cap_terminal_answers.specs.Takes.{queue_head}
 use Rattle.cap_terminal.proofs.Room_laws.{items_is, acked_is}
 use Rattle.cap_terminal.proofs.terminal.Terminal.head_item.Goals as goal
 

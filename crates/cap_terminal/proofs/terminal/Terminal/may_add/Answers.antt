@@ -1,8 +1,8 @@
 use Rattle.std.proofs.Common.{◌≡◌, ℕ, Option, ◌∙◌, ap, subst}
 use Rattle.cap_entries.specs.InForce.{version_in_force}
 use Rattle.cap_entries.specs.Allowed.{part_allowed}
-use Rattle.cap_terminal.specs.declared.part.PartNumbers.{PartNumbers}
-use Rattle.cap_terminal.specs.Numbers.{numbers_allow, numbers_allow_is}
+use Rattle.cap_terminal_answers.specs.declared.part.PartNumbers.{PartNumbers}
+use Rattle.cap_terminal_answers.specs.Numbers.{numbers_allow, numbers_allow_is}
 use Rattle.cap_terminal.proofs.Room_laws.{sets_here}
 use Rattle.cap_terminal.proofs.terminal.Terminal.may_add.Goals as goal
 

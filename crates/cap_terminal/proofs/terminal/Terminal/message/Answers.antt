@@ -8,7 +8,7 @@ use Rattle.cap_entries.specs.Settings.{TerminalSettings}
 use Rattle.cap_entries.specs.Items.{items}
 use Rattle.cap_entries.specs.TermRecord.{term_reading}
 use Rattle.cap_journal.specs.Seen.{EveryImage}
-use Rattle.cap_terminal.specs.Sends.{Is_message}
+use Rattle.cap_terminal_answers.specs.Sends.{Is_message}
 use Rattle.cap_terminal.specs.Stands.{HasItems}
 use Rattle.cap_terminal.proofs.Failing.{holds_items}
 use Rattle.cap_terminal.proofs.terminal.Terminal.message.Goals as goal

@@ -1,6 +1,6 @@
 use Rattle.std.proofs.Common.{◌≡◌, ◌∙◌, ap, subst, None}
 use Rattle.cap_entries.specs.InForce.{staged_from, staged_count}
-use Rattle.cap_terminal.specs.Numbers.{numbers_part, staged_count_is}
+use Rattle.cap_terminal_answers.specs.Numbers.{numbers_part, staged_count_is}
 use Rattle.cap_terminal.proofs.Room_laws.{sets_here}
 use Rattle.cap_terminal.proofs.terminal.Terminal.staged_parts.Goals as goal
 

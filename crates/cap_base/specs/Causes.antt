@@ -7,7 +7,7 @@ use Rattle.cap_base.specs.declared.sink.PutError.TheVariants.{Failed}
 abbrev pub Rose : ℕ → ℕ → Type 0
 Rose before now = min (before + 1) (2 ^ 64 - 1) ≤ now
 
--- the count never falls, rises where the call failed, and stays where it did not
+-- the count never falls, and rises where the call failed
 pub record HasCause {T E : Type 0} (before now : ℕ) (result : Result T E) : Type 0 where
   pub later : before ≤ now
   pub failed : OnErr result (Rose before now)

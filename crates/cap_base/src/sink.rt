@@ -131,7 +131,7 @@ impl MemSink {
 }
 
 impl Sink for MemSink {
-    ghost use Rattle.std.specs.Prelude.{◌≡◌, ◌↔◌, [], Some, IsErrOf, Contains};
+    ghost use Rattle.std.specs.Prelude.{◌≡◌, ◌+◌, ◌-◌, ◌^◌, ◌↔◌, min, [], Some, IsErrOf, Contains};
     ghost use Rattle.cap_base.specs.declared.sink.PutError.TheVariants.{Failed};
     ghost use Rattle.cap_base.specs.Causes.{HasPutCause};
     ghost use Rattle.cap_base.specs.Streams.{PutAppends};
@@ -145,6 +145,8 @@ impl Sink for MemSink {
         ensures bytes { PutAppends (Some (put_of self.old)) (Some (put_of self.new)) result bytes.now }
         ensures cause { HasPutCause self.old.faults self.new.faults result }
         ensures named { IsErrOf result Failed ↔ Contains (sink_named_of self.old) (sink_calls_after self.old) }
+        ensures same_named { sink_named_of self.new ≡ sink_named_of self.old }
+        ensures counted { sink_calls_after self.new ≡ min (sink_calls_after self.old + 1) (2 ^ 64 - 1) }
         ensures quiet { (sink_named_of self.old ≡ []) → self.new.faults ≡ self.old.faults }
     {
         self.calls = self.calls.saturating_add(1);

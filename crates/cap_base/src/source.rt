@@ -117,11 +117,11 @@ impl MemSource {
 }
 
 impl Source for MemSource {
-    ghost use Rattle.std.specs.Prelude.{◌≡◌, ◌<◌, ◌↔◌, [], length, drop, Some, IsErr, Contains};
+    ghost use Rattle.std.specs.Prelude.{◌≡◌, ◌<◌, ◌+◌, ◌-◌, ◌^◌, ◌↔◌, min, [], length, drop, Some, IsErr, Contains};
     ghost use Rattle.std.specs.Io.{ReadsAtMost};
     ghost use Rattle.std.specs.Io.KnownBytes.{ReadConsumes};
     ghost use Rattle.cap_base.specs.Causes.{HasCause};
-    ghost use Rattle.cap_base.specs.Memory.{left_of, calls_after};
+    ghost use Rattle.cap_base.specs.Memory.{left_of, named_of, calls_after};
 
     ghost left = { λ s. Some (drop s.at s.bytes.items) };
 
@@ -133,6 +133,8 @@ impl Source for MemSource {
         ensures bytes { ReadConsumes (Some (left_of self.old)) (Some (left_of self.new)) result buf.new }
         ensures cause { HasCause self.old.faults self.new.faults result }
         ensures named { IsErr result ↔ Contains self.old.named.items (calls_after self.old) }
+        ensures same_named { named_of self.new ≡ named_of self.old }
+        ensures counted { calls_after self.new ≡ min (calls_after self.old + 1) (2 ^ 64 - 1) }
         ensures quiet { (self.old.named.items ≡ []) → self.new.faults ≡ self.old.faults }
     {
         self.calls = self.calls.saturating_add(1);

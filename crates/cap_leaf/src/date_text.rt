@@ -8,7 +8,7 @@ ghost use Rattle.cap_leaf.specs.DateText.{part as part_of, are_digits as digits_
 use crate::date::DateTime;
 use crate::zone::Zone;
 use cap_base::read_number;
-use jiff::civil::Date;
+use jiff_core::civil::Date;
 
 // The bytes of a text from a place on, at most so many.
 fn part(text: &[u8], from: usize, count: usize) -> &[u8]

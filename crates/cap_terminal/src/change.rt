@@ -1,5 +1,5 @@
-use cap_terminal_answers::PartNumbers;
 use cap_base::{Account, Amount, Code6};
+use cap_terminal_answers::PartNumbers;
 
 /// What an entry changes in the index.
 #[derive(Clone, Copy, Debug)]

@@ -3,10 +3,10 @@ ghost use Rattle.cap_terminal.specs.Index.{change_of};
 ghost use Rattle.cap_entries.specs.declared.terminal.TermEntry.TheVariants.{Part};
 
 use crate::change::Change;
-use cap_terminal_answers::PartNumbers;
 use crate::sets::floor_of;
 use cap_base::ConfigPart;
 use cap_entries::TermEntry;
+use cap_terminal_answers::PartNumbers;
 
 fn staging(part: &ConfigPart) -> Change
     ensures { result ≡ change_of (Part part.now) }

@@ -20,16 +20,16 @@ ghost use Rattle.cap_terminal.specs.Causes.{is_adding, IsAnswered, MayTake, IsTa
 ghost use Rattle.cap_terminal.specs.Handles.{Handles};
 
 use crate::add::{RoomFault, reserve_and_add, reserve_rows_and_add};
-use cap_terminal_answers::{Handled, TermFault};
-use cap_terminal_answers::allows;
-use cap_terminal_answers::QueueView;
-use cap_terminal_answers::{Taking, refused, take_batch, take_config, take_plan, take_sale};
 use crate::terminal::Terminal;
 use cap_base::{ConfigPart, Memory};
 use cap_entries::{TermEntry, TermSetup};
 use cap_journal::Journal;
 use cap_mgmt_msgs::MgmtBody;
 use cap_msgs::{Body, DecodeError, Message, decode, reading_is_exact};
+use cap_terminal_answers::{
+    Handled, QueueView, Taking, TermFault, allows, refused, take_batch, take_config, take_plan,
+    take_sale,
+};
 
 // Whether a message is from a set-up's host and to its terminal.
 fn is_between(message: &Message, setup: &TermSetup) -> bool

@@ -6,11 +6,11 @@ ghost use Rattle.cap_terminal.specs.Says.{sale_at};
 ghost use Rattle.cap_terminal.specs.Running.{counted, nothing, closed_at};
 ghost use Rattle.cap_terminal.specs.declared.sale_row.Stage.TheVariants.{Pending, Declined, Completed, Voided, Cancelled};
 
-use cap_terminal_answers::PartNumbers;
 use crate::pending::Pending as PendingNumbers;
 use crate::sale_row::{SaleRow, Stage};
 use crate::sets::Sets;
 use cap_base::{Account, Amount, Code6, Item, Memory, Totals};
+use cap_terminal_answers::PartNumbers;
 use std::alloc::Global;
 
 /// What a terminal keeps of its entries in memory, so that no call reads its journal again.

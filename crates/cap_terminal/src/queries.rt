@@ -12,13 +12,13 @@ ghost use Rattle.cap_terminal_answers.specs.Counts.{counts_of};
 ghost use Rattle.cap_terminal.specs.Live.{IsLive, PendsNoneFrom, IsLeastPending};
 ghost use Rattle.cap_terminal_answers.specs.Takes.{queue_head};
 
-use cap_terminal_answers::Counts;
 use crate::sale_row::Stage;
 use crate::terminal::Terminal;
 use cap_base::{Item, Totals};
 use cap_entries::TermEntry;
 use cap_journal::Journal;
 use cap_sale::{AboveFloor, Approved, AuthRefused, AuthResponse, Begun};
+use cap_terminal_answers::Counts;
 
 // What the terminal answers of its entries, all from memory.
 impl<J: Journal<TermEntry>> Terminal<J> {

@@ -15,7 +15,6 @@ ghost use Rattle.cap_terminal.specs.Stands.{HasItems};
 ghost use Rattle.cap_terminal_answers.specs.Sends.{Is_message, Sends, Head, Batch_of, Ask, Ask_cancel, Diagnose, Report_status, may_be_wanted};
 
 use crate::faults::AskFault;
-use cap_terminal_answers::{part_number, version};
 use crate::terminal::Terminal;
 use cap_base::{DataSet, Item, Memory};
 use cap_batch_msgs::{BatchBody, Items};
@@ -26,6 +25,7 @@ use cap_mgmt_msgs::MgmtBody;
 use cap_msgs::{Body, Message};
 use cap_sale::Begun;
 use cap_sale_msgs::{Ended, SaleBody};
+use cap_terminal_answers::{part_number, version};
 
 // The body that reports an item.
 fn advice(item: Item) -> Body

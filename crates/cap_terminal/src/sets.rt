@@ -4,9 +4,9 @@ ghost use Rattle.std.specs.List.{list_any};
 ghost use Rattle.cap_entries.specs.Floor.{is_floor_row};
 ghost use Rattle.cap_terminal.specs.SetsIndex.{floor_in, floor_joined, sets_after, floor_or};
 
-use cap_terminal_answers::PartNumbers;
 use cap_base::Row;
 use cap_entries::floor_row;
+use cap_terminal_answers::PartNumbers;
 
 /// What is kept of the parts of parameter sets. A floor is none where no row `FLOOR` stands, and the first such row's money else, if it is any.
 #[derive(Clone, Copy, Debug)]

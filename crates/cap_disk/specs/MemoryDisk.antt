@@ -1,6 +1,7 @@
 -- What a disk in memory shows to contracts.
 use Rattle.std.specs.Prelude.{ℕ, List, Option}
 use Rattle.cap_disk.specs.Disk.{Contents, Room, Counts}
+use Rattle.cap_disk.specs.Switch as Switch
 use Rattle.cap_disk.specs.Switch.{told, numbers_on}
 use Rattle.cap_disk.specs.Recorded.{History, history_in, contents_in, moment_in, left_in, room_in, restarted}
 use Rattle.cap_disk.specs.declared.arming.Fill.{Fill}
@@ -39,6 +40,10 @@ cut_of disk = disk.switch.cut
 -- what is armed
 abbrev pub plan_of : MemoryDisk → Plan
 plan_of disk = disk.switch.plan
+
+-- nothing is armed on it, and its power was not cut
+abbrev pub IsIdle : MemoryDisk → Type 0
+IsIdle disk = Switch.IsIdle disk.switch
 
 -- the two numbers once this call is armed
 abbrev pub armed : MemoryDisk → Counted → ℕ → Option Counts

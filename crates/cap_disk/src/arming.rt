@@ -1,5 +1,5 @@
 // Which calls of a disk in memory fail, and what is counted of them.
-ghost use Rattle.std.specs.Prelude.{◌≡◌, ◌≤◌, ◌<◌, ◌+◌, ◌-◌, ◌^◌, ℕ, true, false, Some, None, IsTrue, OnOk, OnErr, if◌then◌else◌};
+ghost use Rattle.std.specs.Prelude.{◌≡◌, ◌≤◌, ◌<◌, ◌+◌, ◌-◌, ◌^◌, ℕ, true, false, Some, None, IsSome, IsTrue, IsErr, OnOk, OnErr, if◌then◌else◌};
 ghost use Rattle.cap_base.specs.Causes.{Rose, HasCause};
 ghost use Rattle.cap_disk.specs.Disk.{IsCounted, IsUncounted};
 
@@ -54,13 +54,15 @@ pub struct Switch {
 }
 
 impl Switch {
-    ghost use Rattle.cap_disk.specs.Switch.{told};
+    ghost use Rattle.cap_disk.specs.Switch.{told, IsIdle, CutsNext, one_less, less_read};
+    ghost use Rattle.cap_disk.specs.declared.arming.Counted.TheVariants.{All};
 
     /// Nothing is armed and nothing was counted but faults.
     pub fn new(faults: u64) -> Switch
         ensures told { told result ≡ Some (record { calls = 0; stop = None }) }
         ensures faults { result.faults ≡ faults }
         ensures cut { result.cut ≡ None }
+        ensures idle { IsIdle result }
     {
         Switch {
             calls: 0,
@@ -98,6 +100,7 @@ impl Switch {
         ensures later { self.old.faults ≤ self.new.faults }
         ensures rose { Rose self.old.faults self.new.faults }
         ensures cut { self.new.cut ≡ (if self.old.plan.cuts then Some self.old.plan.fill else self.old.cut) }
+        ensures plan { self.new.plan ≡ self.old.plan }
     {
         self.faults = self.faults.saturating_add(1);
         if self.plan.cuts {
@@ -110,6 +113,10 @@ impl Switch {
     pub fn count_call(&mut self) -> Result<(), Fate>
         ensures cause { HasCause self.old.faults self.new.faults result }
         ensures counts { IsCounted (told self.old) (told self.new) result }
+        ensures after_cut { IsSome self.old.cut → IsErr result × (self.new.cut ≡ self.old.cut) }
+        ensures at_cut { CutsNext self.old.plan → IsErr result × IsSome self.new.cut }
+        ensures idle { IsIdle self.old → IsIdle self.new × (self.new.faults ≡ self.old.faults) }
+        ensures plan { self.old.cut ≡ None → self.new.plan ≡ one_less self.old.plan }
     {
         self.calls = self.calls.saturating_add(1);
         if self.cut.is_some() {
@@ -127,6 +134,10 @@ impl Switch {
     pub fn count_read(&mut self) -> Result<(), Fate>
         ensures cause { HasCause self.old.faults self.new.faults result }
         ensures counts { IsUncounted (told self.old) (told self.new) result }
+        ensures after_cut { IsSome self.old.cut → IsErr result × (self.new.cut ≡ self.old.cut) }
+        ensures at_cut { self.old.plan.counted ≡ All → CutsNext self.old.plan → IsErr result × IsSome self.new.cut }
+        ensures idle { IsIdle self.old → IsIdle self.new × (self.new.faults ≡ self.old.faults) }
+        ensures plan { self.old.cut ≡ None → self.new.plan ≡ less_read self.old.plan }
     {
         self.reads = self.reads.saturating_add(1);
         if self.cut.is_some() {

@@ -16,7 +16,7 @@ impl MemoryDisk {
     ghost use Rattle.std.specs.Prelude.{false, ◌≡◌, ◌≤◌, ℕ, List, [], IfOk, true, Some, None, IsTrue, ◌↔◌, IsSome};
     ghost use Rattle.cap_disk.specs.Disk.{MayLeave};
     ghost use Rattle.cap_disk.specs.History.{start};
-    ghost use Rattle.cap_disk.specs.MemoryDisk.{plan_of, history_of, contents_of, faults_of, room_of, told_of, cut_of, armed, restart_image, record_of, reads_of};
+    ghost use Rattle.cap_disk.specs.MemoryDisk.{plan_of, history_of, contents_of, faults_of, room_of, told_of, cut_of, armed, restart_image, record_of, reads_of, IsIdle};
 
     /// An empty disk, with no room.
     pub fn new(alloc: Global) -> Result<MemoryDisk, Memory>
@@ -24,6 +24,7 @@ impl MemoryDisk {
         ensures counts { IfOk result (λ disk. told_of disk ≡ Some (record { calls = 0; stop = None })) }
         ensures faults { IfOk result (λ disk. faults_of disk ≡ 0) }
         ensures cut { IfOk result (λ disk. cut_of disk ≡ None) }
+        ensures idle { IfOk result (λ disk. IsIdle disk) }
     {
         Ok(MemoryDisk {
             recorded: Recorded::new(alloc),
@@ -84,6 +85,7 @@ impl MemoryDisk {
         ensures room { room_of result ≡ record { bytes = 0; calls = 0 } }
         ensures faults { faults_of result ≡ faults_of self }
         ensures cut { cut_of result ≡ None }
+        ensures idle { IsIdle result }
     {
         MemoryDisk {
             recorded: self.recorded.restart(self.switch.cut),
@@ -108,8 +110,13 @@ impl MemoryDisk {
 
 impl Disk for MemoryDisk {
     ghost use Rattle.std.proofs.Common.{refl, true};
+    ghost use Rattle.std.specs.Prelude.{◌≡◌, ◌≤◌, ◌<◌, ◌+◌, ◌^◌, length, take, drop, None, IsSome, IsTrue, IsErr, IfOk, OnOk, OnErr};
+    ghost use Rattle.cap_base.specs.Causes.{HasCause};
+    ghost use Rattle.cap_disk.specs.Disk.{MayLeave, Writes, all_synced, Elapses, Uses, HasRoom, IsCounted, IsUncounted};
     ghost use Rattle.cap_disk.specs.History.{start, left_now, left_last, shows_one_after};
-    ghost use Rattle.cap_disk.specs.MemoryDisk.{contents_of, moment_of, left_of, room_of, faults_of, told_of};
+    ghost use Rattle.cap_disk.specs.MemoryDisk.{contents_of, moment_of, left_of, room_of, faults_of, told_of, cut_of, plan_of, IsIdle};
+    ghost use Rattle.cap_disk.specs.Switch.{CutsNext, one_less, less_read};
+    ghost use Rattle.cap_disk.specs.declared.arming.Counted.TheVariants.{All};
 
     ghost tells = { λ _. true };
 
@@ -131,14 +138,37 @@ impl Disk for MemoryDisk {
 
     ghost shows_one = { λ disk tells. shows_one_after (start disk.recorded.first.items) disk.recorded.log.items disk.recorded.bytes.items refl };
 
-    fn len(&mut self) -> Result<u64, Failed> {
+    fn len(&mut self) -> Result<u64, Failed>
+        ensures length { IsTrue true → IfOk result (λ n. n ≡ length (contents_of self.old).shown) }
+        ensures contents { IsTrue true → contents_of self.new ≡ contents_of self.old }
+        ensures time { IsTrue true → Elapses (moment_of self.old) (moment_of self.new) (left_of self.old) (left_of self.new) (MayLeave (contents_of self.new)) }
+        ensures room { room_of self.new ≡ room_of self.old }
+        ensures cause { HasCause (faults_of self.old) (faults_of self.new) result }
+        ensures counts { IsCounted (told_of self.old) (told_of self.new) result }
+        ensures after_cut { IsSome (cut_of self.old) → IsErr result × (cut_of self.new ≡ cut_of self.old) }
+        ensures at_cut { CutsNext (plan_of self.old) → IsErr result × IsSome (cut_of self.new) }
+        ensures idle { IsIdle self.old → IsIdle self.new × (faults_of self.new ≡ faults_of self.old) }
+        ensures plan { cut_of self.old ≡ None → plan_of self.new ≡ one_less (plan_of self.old) }
+    {
         if self.switch.count_call().is_err() {
             return Err(Failed);
         }
         Ok(self.recorded.shown.len() as u64)
     }
 
-    fn read_at(&mut self, place: u64, buf: &mut [u8]) -> Result<(), Failed> {
+    fn read_at(&mut self, place: u64, buf: &mut [u8]) -> Result<(), Failed>
+        requires { IsTrue true → place + length buf.old ≤ length (contents_of self.old).shown }
+        ensures bytes { IsTrue true → OnOk result (buf.new ≡ take (length buf.old) (drop place (contents_of self.old).shown)) }
+        ensures contents { IsTrue true → contents_of self.new ≡ contents_of self.old }
+        ensures time { IsTrue true → Elapses (moment_of self.old) (moment_of self.new) (left_of self.old) (left_of self.new) (MayLeave (contents_of self.new)) }
+        ensures room { room_of self.new ≡ room_of self.old }
+        ensures cause { HasCause (faults_of self.old) (faults_of self.new) result }
+        ensures counts { IsUncounted (told_of self.old) (told_of self.new) result }
+        ensures after_cut { IsSome (cut_of self.old) → IsErr result × (cut_of self.new ≡ cut_of self.old) }
+        ensures at_cut { (plan_of self.old).counted ≡ All → CutsNext (plan_of self.old) → IsErr result × IsSome (cut_of self.new) }
+        ensures idle { IsIdle self.old → IsIdle self.new × (faults_of self.new ≡ faults_of self.old) }
+        ensures plan { cut_of self.old ≡ None → plan_of self.new ≡ less_read (plan_of self.old) }
+    {
         if self.switch.count_read().is_err() {
             return Err(Failed);
         }
@@ -147,7 +177,20 @@ impl Disk for MemoryDisk {
         Ok(())
     }
 
-    fn write_at(&mut self, place: u64, bytes: &[u8]) -> Result<(), Failed> {
+    fn write_at(&mut self, place: u64, bytes: &[u8]) -> Result<(), Failed>
+        requires place { IsTrue true → place ≤ length (contents_of self.old).shown }
+        requires fits { place + length bytes.now < 2 ^ 63 }
+        requires room { HasRoom (length bytes.now) 1 (room_of self.old) }
+        ensures written { IsTrue true → Writes place bytes.now result (contents_of self.old) (contents_of self.new) }
+        ensures time { IsTrue true → Elapses (moment_of self.old) (moment_of self.new) (left_of self.old) (left_of self.new) (MayLeave (contents_of self.new)) }
+        ensures room { Uses (length bytes.now) 1 (room_of self.old) (room_of self.new) }
+        ensures cause { HasCause (faults_of self.old) (faults_of self.new) result }
+        ensures counts { IsCounted (told_of self.old) (told_of self.new) result }
+        ensures after_cut { IsSome (cut_of self.old) → IsErr result × (cut_of self.new ≡ cut_of self.old) }
+        ensures at_cut { CutsNext (plan_of self.old) → IsErr result × IsSome (cut_of self.new) }
+        ensures idle { IsIdle self.old → IsIdle self.new × (faults_of self.new ≡ faults_of self.old) }
+        ensures plan { cut_of self.old ≡ None → plan_of self.new ≡ one_less (plan_of self.old) }
+    {
         let len = bytes.len() as u64;
         match self.switch.count_call() {
             Ok(()) => {
@@ -173,7 +216,19 @@ impl Disk for MemoryDisk {
         }
     }
 
-    fn sync(&mut self) -> Result<(), Failed> {
+    fn sync(&mut self) -> Result<(), Failed>
+        requires { HasRoom 0 1 (room_of self.old) }
+        ensures synced { IsTrue true → OnOk result (contents_of self.new ≡ all_synced (contents_of self.old)) }
+        ensures failed { IsTrue true → OnErr result (contents_of self.new ≡ contents_of self.old) }
+        ensures time { IsTrue true → Elapses (moment_of self.old) (moment_of self.new) (left_of self.old) (left_of self.new) (MayLeave (contents_of self.new)) }
+        ensures room { Uses 0 1 (room_of self.old) (room_of self.new) }
+        ensures cause { HasCause (faults_of self.old) (faults_of self.new) result }
+        ensures counts { IsCounted (told_of self.old) (told_of self.new) result }
+        ensures after_cut { IsSome (cut_of self.old) → IsErr result × (cut_of self.new ≡ cut_of self.old) }
+        ensures at_cut { CutsNext (plan_of self.old) → IsErr result × IsSome (cut_of self.new) }
+        ensures idle { IsIdle self.old → IsIdle self.new × (faults_of self.new ≡ faults_of self.old) }
+        ensures plan { cut_of self.old ≡ None → plan_of self.new ≡ one_less (plan_of self.old) }
+    {
         if self.switch.count_call().is_err() {
             return Err(Failed);
         }

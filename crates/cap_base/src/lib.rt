@@ -11,8 +11,6 @@ mod number;
 mod parameters;
 mod sink;
 mod source;
-#[cfg(test)]
-mod tests;
 mod text;
 
 pub use amount::{Amount, Money, read_decimal};

@@ -2,8 +2,6 @@
 #![tactic(auto)]
 
 mod response;
-#[cfg(test)]
-mod tests;
 mod tokens;
 
 pub use response::AuthResponse;

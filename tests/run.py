@@ -6,12 +6,16 @@ standard error behind it, and the output. In a table a line is a case. Everywher
 The last line is `N passed, M failed`, and the status 1 where a case failed.
 """
 
+import fcntl
 import os
 import re
 import socket
+import struct
 import subprocess
 import sys
+import termios
 import threading
+import time
 
 HERE = os.path.dirname(os.path.abspath(__file__))
 TOP = os.path.dirname(HERE)
@@ -87,8 +91,7 @@ def schedules():
         for end in b"", b"\n":
             case(f"faulty line {line!r}", ["replay"], SET_UP + plain(line) + end, 3, b"", 3)
     for line in lines("set-up-lines.txt"):
-        status, _, _ = run(["replay"], SET_UP + plain(line) + b"\n")
-        check(f"set-up line {line!r}", (status,), (0,))
+        check(f"set-up line {line!r}", run(["replay"], SET_UP + plain(line) + b"\n")[:1], (0,))
     terminals = b"".join(b"terminal %c max 1 floor 0\n" % id for id in b"ABCDEFGHIJKLMNO")
     check("sixteen terminals", run(["replay"], SET_UP + terminals + b"push O\n")[:1], (0,))
     case("seventeen terminals", ["replay"], SET_UP + terminals + b"terminal P max 1 floor 0\n", 3, b"", 18)
@@ -107,7 +110,8 @@ def noise():
     """A message between parties of the schedule is no noise; any other bytes are, up to 65,536."""
     for sender, receiver, line in [("T1", "ACQ1", 3), ("ACQ1", "T1", 3), ("T1", "T1", 3), ("ACQ1", "ACQ1", 3), ("T2", "ACQ1", 0), ("T1", "ACQ2", 0), ("T_1", "ACQ1", 0)]:
         given = SET_UP + b"noise ACQ1 " + DIAGNOSIS.format(sender, receiver).encode().hex().encode()
-        check(f"noise from {sender} to {receiver}", (lambda e: (e[0], e[2]))(run(["replay"], given)), (3, said(3, 3)) if line else (0, b""))
+        status, _, error = run(["replay"], given)
+        check(f"noise from {sender} to {receiver}", (status, error), (3, said(3, 3)) if line else (0, b""))
     case("an advice of the terminal as noise", ["replay"], SET_UP + b"noise ACQ1 " + text("advice.xml").hex().encode() + b"\n", 3, b"", 3)
     most = SET_UP + b"noise ACQ1 " + b"00" * 65_536
     check("noise of 65,536 bytes", run(["replay"], most)[:1], (0,))
@@ -197,11 +201,6 @@ def reset():
 
     def end():
         # what was sent has been read once nothing of it waits
-        import fcntl
-        import struct
-        import termios
-        import time
-
         while struct.unpack("i", fcntl.ioctl(theirs, termios.FIONREAD, b"\0" * 4))[0]:
             time.sleep(0.01)
         ours.setsockopt(socket.SOL_SOCKET, socket.SO_LINGER, struct.pack("ii", 1, 0))
@@ -215,10 +214,21 @@ def reset():
     check("replay of a connection that is reset", (child.returncode, output, error), (4, b"", said(4)))
 
 
+def examples():
+    """Each example prints what stands beside it."""
+    folder = os.path.join(TOP, "examples")
+    for name in sorted(os.listdir(folder)):
+        stem, kind = os.path.splitext(name)
+        command, output = {".schedule": ("replay", ".report"), ".xml": ("show", ".txt")}.get(kind, (None, None))
+        if command:
+            with open(os.path.join(folder, name), "rb") as given, open(os.path.join(folder, stem + output), "rb") as wanted:
+                case(f"examples/{name}", [command], given.read(), 0, wanted.read())
+
+
 def main():
     if not os.path.exists(PROGRAM):
         sys.exit(f"tests: {PROGRAM} is not built")
-    for part in schedules, noise, documents, limits, words, made, outside, reset:
+    for part in schedules, noise, documents, limits, words, made, outside, reset, examples:
         part()
     print(f"{passed} passed, {failed} failed")
     sys.exit(1 if failed else 0)

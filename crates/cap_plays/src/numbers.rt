@@ -1,5 +1,5 @@
 /// The numbers of a terminal's line in a report.
-#[derive(Clone, Copy, Debug, PartialEq, Eq)]
+#[derive(Clone, Copy)]
 pub struct TerminalNumbers {
     /// Sales that were begun, with or without an end.
     pub sales: u64,

@@ -12,7 +12,7 @@ use sqlite_items::Items;
 use std::alloc::Global;
 
 /// What is known of a terminal while its lines are made: how many sales it has made, for each of which it sent a message, and how many answers it has.
-#[derive(Clone, Copy, Debug, PartialEq, Eq)]
+#[derive(Clone, Copy)]
 pub struct Tally {
     pub sales: u64,
     pub answers: u64,

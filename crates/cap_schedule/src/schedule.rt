@@ -9,14 +9,14 @@ use std::alloc::AllocError;
 use std::marker::Model;
 
 /// The end at which a line acts: the host, or the terminal at a place, from 0.
-#[derive(Clone, Copy, Debug, PartialEq, Eq)]
+#[derive(Clone, Copy)]
 pub enum End {
     Host,
     Terminal(u64),
 }
 
 /// What may stand before an action. Calls are those of the acting end's disk in the line, but those of `read_at`, from 1.
-#[derive(Clone, Copy, Debug, PartialEq, Eq)]
+#[derive(Clone, Copy)]
 pub enum Prefix {
     /// The power goes at this call.
     Cut { call: u64, fill: Fill },
@@ -27,7 +27,7 @@ pub enum Prefix {
 }
 
 /// Bytes of nobody's, as a line of noise has them. Contracts see a list.
-#[derive(Debug, Drop)]
+#[derive(Drop)]
 pub struct Bytes {
     bytes: Vec<u8>,
 }
@@ -57,7 +57,7 @@ impl Bytes {
 }
 
 /// What a line asks of a terminal. Sales, messages and answers are named by their numbers, from 1.
-#[derive(Debug, Drop)]
+#[derive(Drop)]
 pub enum Order {
     /// Begins a sale.
     Begin { amount: Amount, account: Account },
@@ -92,7 +92,7 @@ pub enum Order {
 }
 
 /// What a line asks of the host.
-#[derive(Debug, Drop)]
+#[derive(Drop)]
 pub enum HostOrder {
     /// Takes a message that the terminal at a place sent.
     Up { terminal: u64, which: u64 },
@@ -103,7 +103,7 @@ pub enum HostOrder {
 }
 
 /// What a line asks for.
-#[derive(Debug, Drop)]
+#[derive(Drop)]
 pub enum Action {
     AtTerminal { place: u64, order: Order },
     AtHost(HostOrder),
@@ -112,7 +112,7 @@ pub enum Action {
 }
 
 /// An action line: its number, what stands before the action, and the action.
-#[derive(Debug, Drop)]
+#[derive(Drop)]
 pub struct Line {
     pub number: u64,
     pub prefix: Option<Prefix>,
@@ -120,7 +120,7 @@ pub struct Line {
 }
 
 /// The host line.
-#[derive(Debug, Drop)]
+#[derive(Drop)]
 pub struct HostLine {
     pub id: Ident,
     pub limit: Amount,
@@ -130,7 +130,7 @@ pub struct HostLine {
 }
 
 /// A whole schedule: how the ends are set up, and the action lines.
-#[derive(Debug, Drop)]
+#[derive(Drop)]
 pub struct Schedule {
     pub host: HostSetup,
     /// In the order of the host's set-up.
@@ -139,7 +139,7 @@ pub struct Schedule {
 }
 
 /// A schedule as far as it was read.
-#[derive(Debug, Drop)]
+#[derive(Drop)]
 pub enum Draft {
     Empty,
     /// The host line and terminal lines.

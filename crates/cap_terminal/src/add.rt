@@ -63,7 +63,7 @@ pub(crate) fn add_entry<J: Journal<TermEntry>>(
 }
 
 /// Why an entry was not added for which room had to be made.
-#[derive(Clone, Copy, Debug, PartialEq, Eq)]
+#[derive(Clone, Copy)]
 pub(crate) enum RoomFault {
     Memory,
     Disk,

@@ -2,7 +2,7 @@ use cap_base::{Account, Amount, Code6};
 use cap_terminal_answers::PartNumbers;
 
 /// What an entry changes in the index.
-#[derive(Clone, Copy, Debug)]
+#[derive(Clone, Copy)]
 pub(crate) enum Change {
     Nothing,
     Begin {

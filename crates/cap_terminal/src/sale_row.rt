@@ -11,7 +11,7 @@ pub(crate) enum Stage {
 }
 
 /// What is kept of a sale.
-#[derive(Clone, Copy, Debug)]
+#[derive(Clone, Copy)]
 pub(crate) struct SaleRow {
     pub amount: Amount,
     pub account: Account,

@@ -9,7 +9,7 @@ use cap_entries::floor_row;
 use cap_terminal_answers::PartNumbers;
 
 /// What is kept of the parts of parameter sets. A floor is none where no row `FLOOR` stands, and the first such row's money else, if it is any.
-#[derive(Clone, Copy, Debug)]
+#[derive(Clone, Copy)]
 pub(crate) struct Sets {
     /// The numbers of the last part.
     pub staged: Option<PartNumbers>,

@@ -16,7 +16,7 @@ const MOST_BYTES: usize = 16 * 1024 * 1024;
 pub const MOST_LINES: u64 = 100_000;
 
 /// Why an input was not read to its end.
-#[derive(Clone, Copy, Debug, PartialEq, Eq)]
+#[derive(Clone, Copy)]
 pub enum InputFault {
     Read,
     Limit,

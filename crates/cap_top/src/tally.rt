@@ -1,5 +1,5 @@
 /// Bytes and lines, counted as they come. A line begins at the first byte, and at each byte after a line feed.
-#[derive(Clone, Copy, Debug, PartialEq, Eq)]
+#[derive(Clone, Copy)]
 pub struct Tally {
     pub bytes: usize,
     pub lines: u64,

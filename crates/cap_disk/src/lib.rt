@@ -3,16 +3,12 @@
 
 mod arming;
 mod disk;
-mod file;
 mod laying;
 mod memory;
 mod recorded;
 mod surviving;
-#[cfg(test)]
-mod tests;
 
 pub use arming::{Counted, Fill};
 pub use disk::Disk;
-pub use file::FileDisk;
 pub use memory::MemoryDisk;
 pub use recorded::Call;

@@ -17,8 +17,6 @@ mod sale_end;
 mod stage;
 mod term_record;
 mod terminal;
-#[cfg(test)]
-mod tests;
 
 pub use first::{first_host_not_allowed, first_not_allowed};
 pub use floor::floor_row;

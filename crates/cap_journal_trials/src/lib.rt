@@ -1,12 +1,8 @@
 //! Journals tried out: a small record type, an end over any journal, and tables of what a power cut leaves.
 #![tactic(auto)]
 
-#[cfg(test)]
-mod entry_tests;
 mod ledger;
 mod sample;
-#[cfg(test)]
-mod tests;
 
 pub use ledger::{Ledger, add_and_reopen};
 pub use sample::Sample;

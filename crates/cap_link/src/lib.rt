@@ -11,6 +11,3 @@ mod tcp;
 pub use link::Link;
 pub use memory::MemLink;
 pub use tcp::TcpLink;
-
-#[cfg(test)]
-mod tests;

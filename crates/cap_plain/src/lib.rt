@@ -5,8 +5,6 @@ mod capture;
 mod items;
 mod laws;
 mod period;
-#[cfg(test)]
-mod tests;
 
 pub use capture::capture_of;
 pub use items::items_of;

@@ -7,44 +7,44 @@ use Rattle.cap_journal.proofs.group.write_group.Goals as goal
 
 pub returns-in_err-write_synced-clause-any_moment : goal.returns-in_err-write_synced-clause-any_moment
 returns-in_err-write_synced-clause-any_moment g c tells =
-    let d0 = c.args.disk.now in
-    let d1 = c.write_synced.new.disk in
-    let shown = (g.D.Disk.contents d0).shown in
+    let old_disk = c.args.disk.now in
+    let group_disk = c.write_synced.new.disk in
+    let shown = (g.D.Disk.contents old_disk).shown in
     let end = c.args.end in
     let group = c.args.group.now in
-    weaker g.D.Disk.moment g.D.Disk.left_since d0 d1 (KeepsOutside ((end + 1, length group) ∷ []) shown) (HasGateOrGroup (take end shown) (slice_index shown end) group) (c.write_synced.ensures.any_moment tells)
+    weaker g.D.Disk.moment g.D.Disk.left_since old_disk group_disk (KeepsOutside ((end + 1, length group) ∷ []) shown) (HasGateOrGroup (take end shown) (slice_index shown end) group) (c.write_synced.ensures.any_moment tells)
     (λ image keeps. inl (before_gate shown image end (length group) (c.requires.gate tells) keeps))
 
 pub returns-in_err-write_synced-2-clause-any_moment : goal.returns-in_err-write_synced-2-clause-any_moment
 returns-in_err-write_synced-2-clause-any_moment g c tells =
-    let d0 = c.args.disk.now in
-    let d1 = c.write_synced.new.disk in
-    let d2 = c.write_synced-2.new.disk in
-    let shown = (g.D.Disk.contents d0).shown in
-    let shown1 = (g.D.Disk.contents d1).shown in
+    let old_disk = c.args.disk.now in
+    let group_disk = c.write_synced.new.disk in
+    let gate_disk = c.write_synced-2.new.disk in
+    let shown = (g.D.Disk.contents old_disk).shown in
+    let group_shown = (g.D.Disk.contents group_disk).shown in
     let end = c.args.end in
     let group = c.args.group.now in
-    let tells1 : IsTrue (g.D.Disk.tells d1) = subst IsTrue (sym c.write_synced.ensures.tells) tells in
+    let group_tells : IsTrue (g.D.Disk.tells group_disk) = subst IsTrue (sym c.write_synced.ensures.tells) tells in
     let lt = c.requires.gate tells in
-    let is = staged shown group shown1 end lt (c.in_ok-write_synced.ensures.shown tells) in
-    joined g.D.Disk.moment g.D.Disk.left_since d0 d1 d2 (KeepsOutside ((end + 1, length group) ∷ []) shown) (KeepsOutside ((end, 1) ∷ []) shown1) (HasGateOrGroup (take end shown) (slice_index shown end) group)
-    (c.write_synced.ensures.any_moment tells) (c.write_synced-2.ensures.any_moment tells1)
+    let is = staged shown group group_shown end lt (c.in_ok-write_synced.ensures.shown tells) in
+    joined g.D.Disk.moment g.D.Disk.left_since old_disk group_disk gate_disk (KeepsOutside ((end + 1, length group) ∷ []) shown) (KeepsOutside ((end, 1) ∷ []) group_shown) (HasGateOrGroup (take end shown) (slice_index shown end) group)
+    (c.write_synced.ensures.any_moment tells) (c.write_synced-2.ensures.any_moment group_tells)
     (λ image keeps. inl (before_gate shown image end (length group) lt keeps))
-    (λ image keeps. inr (behind_gate (take end shown) group (drop (end + 1 + length group) shown) shown1 image (slice_index shown end) end (length_front shown end lt) is keeps))
+    (λ image keeps. inr (behind_gate (take end shown) group (drop (end + 1 + length group) shown) group_shown image (slice_index shown end) end (length_front shown end lt) is keeps))
 
 pub returns-clause-any_moment : goal.returns-clause-any_moment
 returns-clause-any_moment g c tells =
-    let d0 = c.args.disk.now in
-    let d1 = c.write_synced.new.disk in
-    let d2 = c.write_synced-2.new.disk in
-    let shown = (g.D.Disk.contents d0).shown in
-    let shown1 = (g.D.Disk.contents d1).shown in
+    let old_disk = c.args.disk.now in
+    let group_disk = c.write_synced.new.disk in
+    let gate_disk = c.write_synced-2.new.disk in
+    let shown = (g.D.Disk.contents old_disk).shown in
+    let group_shown = (g.D.Disk.contents group_disk).shown in
     let end = c.args.end in
     let group = c.args.group.now in
-    let tells1 : IsTrue (g.D.Disk.tells d1) = subst IsTrue (sym c.write_synced.ensures.tells) tells in
+    let group_tells : IsTrue (g.D.Disk.tells group_disk) = subst IsTrue (sym c.write_synced.ensures.tells) tells in
     let lt = c.requires.gate tells in
-    let is = staged shown group shown1 end lt (c.in_ok-write_synced.ensures.shown tells) in
-    joined g.D.Disk.moment g.D.Disk.left_since d0 d1 d2 (KeepsOutside ((end + 1, length group) ∷ []) shown) (KeepsOutside ((end, 1) ∷ []) shown1) (HasGateOrGroup (take end shown) (slice_index shown end) group)
-    (c.write_synced.ensures.any_moment tells) (c.write_synced-2.ensures.any_moment tells1)
+    let is = staged shown group group_shown end lt (c.in_ok-write_synced.ensures.shown tells) in
+    joined g.D.Disk.moment g.D.Disk.left_since old_disk group_disk gate_disk (KeepsOutside ((end + 1, length group) ∷ []) shown) (KeepsOutside ((end, 1) ∷ []) group_shown) (HasGateOrGroup (take end shown) (slice_index shown end) group)
+    (c.write_synced.ensures.any_moment tells) (c.write_synced-2.ensures.any_moment group_tells)
     (λ image keeps. inl (before_gate shown image end (length group) lt keeps))
-    (λ image keeps. inr (behind_gate (take end shown) group (drop (end + 1 + length group) shown) shown1 image (slice_index shown end) end (length_front shown end lt) is keeps))
+    (λ image keeps. inr (behind_gate (take end shown) group (drop (end + 1 + length group) shown) group_shown image (slice_index shown end) end (length_front shown end lt) is keeps))

@@ -3,25 +3,34 @@ ghost use Rattle.std.specs.Prelude.{◌≡◌, ◌^◌, ℕ, List, [], Bool, fal
 ghost use Rattle.std.proofs.lemmas.Bool.{false≢true};
 ghost use Rattle.cap_base.specs.Causes.{HasCause};
 
-use crate::disk::Disk;
 use cap_base::{Failed, Memory};
-use std::fs::{Files, OpenFile, OpenOptions};
-use std::io::{ErrorKind, Read, Seek, SeekFrom, Write};
+use cap_disk::Disk;
+use std::fs::{File, Files, OpenOptions};
+use std::io::{self, ErrorKind, Read, Seek, SeekFrom, Write};
+use std::os::fd::AsRawFd;
+use std::os::unix::fs::OpenOptionsExt;
 
 /// How often a call tries again after an interruption.
 const MOST_TRIES: u32 = 1000;
 
-/// A disk over a file, which is opened by the first call that needs it. Its room never ends.
+/// A new file is read and written by its owner alone: it holds account numbers.
+const OWNER_ALONE: u32 = 0o600;
+
+/// A disk over a file, which is opened by the first call that needs it, and locked from then on for as long as the disk is there. Its
+/// room never ends. A sync that fails is final: every later call fails.
 #[derive(Drop)]
-pub struct FileDisk<R: Files + Drop> {
+pub struct FileDisk<R: Files<File = File> + Drop> {
     rt: R,
     path: String,
-    file: Option<R::File>,
+    file: Option<File>,
+    /// Whether a sync has failed.
+    is_lost: bool,
     faults: u64,
 }
 
-impl<R: Files + Drop> FileDisk<R> {
-    /// A disk over the file at a path. The first call of `len`, `read_at`, `write_at` or `sync` opens the file, or makes an empty one.
+impl<R: Files<File = File> + Drop> FileDisk<R> {
+    /// A disk over the file at a path. The first call of `len`, `read_at`, `write_at` or `sync` opens the file, or makes an empty one;
+    /// where it can't, or where someone else has the file, the call fails and the next one tries again.
     pub fn at(rt: R, path: String) -> FileDisk<R>
         ensures { result.faults ≡ 0 }
     {
@@ -29,6 +38,7 @@ impl<R: Files + Drop> FileDisk<R> {
             rt,
             path,
             file: None,
+            is_lost: false,
             faults: 0,
         }
     }
@@ -37,13 +47,15 @@ impl<R: Files + Drop> FileDisk<R> {
     fn open(&mut self)
         ensures { self.new.faults ≡ self.old.faults }
     {
-        if self.file.is_some() {
+        if self.is_lost || self.file.is_some() {
             return;
         }
-        let mut options = OpenOptions::new();
-        options.read(true).write(true).create(true);
-        if let Ok(file) = options.open(&self.rt, self.path.as_str()) {
-            self.file = Some(file);
+        if let Ok(file) = open_locked(&self.rt, self.path.as_str()) {
+            if settle(&self.rt, self.path.as_str(), &file).is_ok() {
+                self.file = Some(file);
+            } else {
+                self.is_lost = true;
+            }
         }
     }
 
@@ -55,6 +67,53 @@ impl<R: Files + Drop> FileDisk<R> {
         self.faults = self.faults.saturating_add(1);
         Err(Failed)
     }
+}
+
+// Opens the file, or makes an empty one, whose name is then no link.
+fn open_or_make<R: Files<File = File>>(rt: &R, path: &str) -> io::Result<File> {
+    let mut options = OpenOptions::new();
+    options.read(true).write(true);
+    match options.open(rt, path) {
+        Err(error) if error.kind() == ErrorKind::NotFound => {
+            options.create_new(true).mode(OWNER_ALONE);
+            options.open(rt, path)
+        }
+        found => found,
+    }
+}
+
+// Opens the file, and locks it: of two processes on one file one fails.
+fn open_locked<R: Files<File = File>>(rt: &R, path: &str) -> io::Result<File> {
+    let mut file = open_or_make(rt, path)?;
+    // What is meant for a standard stream that was closed must not land in the file.
+    if file.as_raw_fd() <= 2 {
+        file = file.try_clone()?;
+    }
+    if !file.metadata()?.is_file() {
+        return Err(ErrorKind::Unsupported.into());
+    }
+    file.try_lock()?;
+    Ok(file)
+}
+
+// The folder that holds the file at a path.
+fn folder_of(path: &str) -> &str {
+    match path.rsplit_once('/') {
+        Some(("", _)) => "/",
+        Some((folder, _)) => folder,
+        None => ".",
+    }
+}
+
+// Lets a read give what the device has: a failed sync of an earlier process may have left other bytes in memory, as if they were clean.
+// The folder is synced each time, since that process may have ended before it was.
+fn settle<R: Files<File = File>>(rt: &R, path: &str, file: &File) -> io::Result<()> {
+    file.sync_all()?;
+    let advised = libc::posix_fadvise(file.as_raw_fd(), 0, 0, libc::POSIX_FADV_DONTNEED);
+    if advised != 0 {
+        return Err(io::Error::from_raw_os_error(advised));
+    }
+    File::open(rt, folder_of(path))?.sync_all()
 }
 
 // Fills the buffer, and says whether it did.
@@ -95,7 +154,7 @@ fn write_whole<S: Write>(stream: &mut S, bytes: &[u8]) -> bool {
     true
 }
 
-impl<R: Files + Drop> Disk for FileDisk<R> {
+impl<R: Files<File = File> + Drop> Disk for FileDisk<R> {
     ghost tells = { λ _. false };
 
     ghost contents = { λ _. record { synced = []; written = []; shown = [] } };
@@ -148,49 +207,18 @@ impl<R: Files + Drop> Disk for FileDisk<R> {
 
     fn sync(&mut self) -> Result<(), Failed> {
         self.open();
-        if let Some(file) = &self.file {
+        if let Some(file) = self.file.take() {
             if file.sync_all().is_ok() {
+                self.file = Some(file);
                 return Ok(());
             }
+            // The system tells of lost bytes once, and may call them clean from then on.
+            self.is_lost = true;
         }
         self.fault()
     }
 
     fn make_room(&mut self, _bytes: u64, _calls: u64) -> Result<(), Memory> {
-        Ok(())
-    }
-}
-
-#[cfg(test)]
-mod tests {
-    use crate::{Disk, FileDisk};
-    use cap_base::Failed;
-    use std::test::Fail;
-    use std::{fs, process};
-
-    #[test]
-    fn a_file_keeps_what_was_written(rt: HostRuntime) -> Result<(), Fail> {
-        let path = format!(in rt.alloc(); "/tmp/cap_disk_{}", process::id(rt.process()))?;
-        let _ = fs::remove_file(&rt, path.as_str());
-        let mut disk = FileDisk::at(&rt, path.clone()?);
-        assert!(rt; !fs::exists(&rt, path.as_str())?);
-        assert_eq!(rt; disk.len(), Ok(0));
-        let mut buf = [0u8; 5];
-        disk.make_room(7, 3)?;
-        disk.write_at(0, b"abcd")?;
-        disk.write_at(2, b"xyz")?;
-        disk.sync()?;
-        disk.read_at(0, &mut buf)?;
-        assert_eq!(rt; buf.as_slice(), b"abxyz".as_slice());
-        let mut again = FileDisk::at(&rt, path.clone()?);
-        assert_eq!(rt; again.len(), Ok(5));
-        again.read_at(0, &mut buf)?;
-        assert_eq!(rt; buf.as_slice(), b"abxyz".as_slice());
-        assert_eq!(rt; again.read_at(1, &mut buf), Err(Failed));
-        fs::remove_file(&rt, path.as_str())?;
-        let nowhere = format!(in rt.alloc(); "{path}/none")?;
-        let mut none = FileDisk::at(&rt, nowhere);
-        assert_eq!(rt; none.len(), Err(Failed));
         Ok(())
     }
 }

@@ -1,5 +1,5 @@
 use Rattle.std.proofs.Common.{length, ◌-◌, ◌+◌, ◌≤◌}
-use Rattle.cap_disk.proofs.file.read_whole.Given as goal
+use Rattle.cap_file_disk.proofs.file.read_whole.Given as goal
 
 abbrev pub invariant-pieces : goal.invariant-pieces
 invariant-pieces g l = l.done ≤ length l.buf

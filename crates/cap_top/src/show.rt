@@ -60,9 +60,9 @@ pub fn run_show<S: Source, K: Sink>(alloc: Global, input: &mut S, out: &mut K) -
     ensures not_words { result ≢ Status.Words }
     ensures not_line { (k : _) → result ≢ Status.Line k }
     ensures read { result ≡ Status.Read → Rose (S.faults input.old) (S.faults input.new) × (out.new ≡ out.old) }
-    ensures write { result ≡ Status.Write → Rose (K.faults out.old) (K.faults out.new) × TookAll (S.left input.old) (S.left input.new) (ShowsSome (K.contents out.old) (K.contents out.new)) }
+    ensures write { result ≡ Status.Write → Rose (K.faults out.old) (K.faults out.new) × TookAll (S.left input.old) (S.left input.new) (λ bytes. ShowsSome (K.contents out.old) (K.contents out.new) bytes × IsWithin bytes) }
     ensures limit { result ≡ Status.InputLimit → Took (S.left input.old) (S.left input.new) IsPastLimit × (out.new ≡ out.old) }
-    ensures memory { result ≡ Status.Memory → (out.new ≡ out.old) ⊎ TookAll (S.left input.old) (S.left input.new) (ShowsSome (K.contents out.old) (K.contents out.new)) }
+    ensures memory { result ≡ Status.Memory → (out.new ≡ out.old) ⊎ TookAll (S.left input.old) (S.left input.new) (λ bytes. ShowsSome (K.contents out.old) (K.contents out.new) bytes × IsWithin bytes) }
     ensures input_later { S.faults input.old ≤ S.faults input.new }
     ensures out_later { K.faults out.old ≤ K.faults out.new }
 {

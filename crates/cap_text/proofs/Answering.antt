@@ -1,6 +1,6 @@
 -- What the calls answer.
 use Rattle.std.proofs.Common.{ℕ, ◌≡◌, ◌<◌, ◌+◌, ◌^◌, List, ◌++◌, length, Some, None, sym, ◌∙◌, ap, arith, length-append}
-use Rattle.std.specs.Prelude.{Result, Ok, Err, IfOk, MatchResult}
+use Rattle.std.specs.Prelude.{Result, Ok, Err, IfOk, OnOk, MatchResult}
 use Rattle.std.proofs.lemmas.List.{length-take}
 use Rattle.cap_leaf.specs.declared.kinds.Kind.{Kind}
 use Rattle.cap_leaf.specs.declared.tree.Tree.{Tree}
@@ -17,6 +17,7 @@ use Rattle.cap_text.specs.Verdicts.{IsVerdict}
 use Rattle.cap_trees.specs.Fits.{FitsKind}
 use Rattle.cap_text.proofs.WrittenAgain.{spells_fit}
 use Rattle.cap_text.proofs.Came.{came}
+use Rattle.cap_text.proofs.Stepping.{on_ok}
 use Rattle.cap_text.proofs.Verdict.{place_of, verdict_document, verdict_fault, in_pieces}
 
 some_reading : (r s : Reading) → Some r ≡ Some s → r ≡ s
@@ -33,11 +34,11 @@ can_take q bytes n e few =
     let place : q.known.place ≡ (on_bytes begun bytes).known.place = ap (λ r. r.known.place) e in
     omega (arith, few, ap length held, place, ap (λ n. n.place) c.knows, place_of c.pieces, ap length c.is, length-append (text_of c.pieces) c.rest, ap length c.holds, length-take 128 c.rest)
 
-pub reads : (r : PieceReader) (q s : CodeReading) (bytes piece : List ℕ) → r.reading ≡ Some q → HasRead r bytes → length bytes + length piece < 2 ^ 64
-    → (q.known.place + length q.held.bytes.items + length piece < 2 ^ 64 → reading_of s ≡ on_bytes (reading_of q) piece) → Some (reading_of s) ≡ Some (on_bytes begun (bytes ++ piece))
-reads r q s bytes piece e h few next =
+pub reads : {A E : Type 0} (result : Result A E) (r : PieceReader) (q s : CodeReading) (bytes piece : List ℕ) → r.reading ≡ Some q → HasRead r bytes → length bytes + length piece < 2 ^ 64
+    → (q.known.place + length q.held.bytes.items + length piece < 2 ^ 64 → OnOk result (reading_of s ≡ on_bytes (reading_of q) piece)) → OnOk result (Some (reading_of s) ≡ Some (on_bytes begun (bytes ++ piece)))
+reads result r q s bytes piece e h few next =
     let same : reading_of q ≡ on_bytes begun bytes = some_reading (reading_of q) (on_bytes begun bytes) (sym (ap reading_in e) ∙ h) in
-    ap Some (next (can_take q bytes (length piece) same few) ∙ ap (λ t. on_bytes t piece) same ∙ in_pieces bytes piece)
+    on_ok result _ _ (λ is. ap Some (is ∙ ap (λ t. on_bytes t piece) same ∙ in_pieces bytes piece)) (next (can_take q bytes (length piece) same few))
 
 verdict_says : (bytes : List ℕ) (v : Verdict) (result : Result (Kind × Tree) ReadError) → run_bytes bytes ≡ v → IsVerdict v result
     → MatchResult result (λ d. Spells d.0 (data_of d.1) bytes) (λ e. IsFaultOf bytes e)

@@ -120,7 +120,7 @@ ended_came : (bytes text : List ℕ) (d : Doc) (n : Known) (o : Option Piece) (p
 ended_came bytes text d n None ps e is ran knows short ends = failed bytes text d n true ps is ran knows short (sym ends)
 ended_came bytes text d n (Some p) ps e is ran knows short ends = moved_came bytes text d n p (doc_step d p) ps refl is ran knows short ends (piece_says d text p e)
 
-take_more : {A : Type 0} (n : ℕ) (xs ys : List A) → take n (take n xs ++ ys) ≡ take n (xs ++ ys)
+pub take_more : {A : Type 0} (n : ℕ) (xs ys : List A) → take n (take n xs ++ ys) ≡ take n (xs ++ ys)
 take_more zero xs ys = refl
 take_more (suc n) [] ys = refl
 take_more (suc n) (x ∷ xs) ys = ap (λ l. x ∷ l) (take_more n xs ys)
@@ -133,7 +133,7 @@ empty_is : (h : List ℕ) → is_empty h ≡ true → h ≡ []
 empty_is [] e = refl
 empty_is (b ∷ bs) e = cc
 
-or_end : (b : Bool) → (b || false) ≡ b
+pub or_end : (b : Bool) → (b || false) ≡ b
 or_end true = refl
 or_end false = refl
 

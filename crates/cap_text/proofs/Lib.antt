@@ -15,6 +15,7 @@ pub mod Seeking
 pub mod Closing
 pub mod Keeping
 pub mod Stepping
+pub mod Runs
 pub mod Pieced
 pub mod LeavesRead
 pub mod WrittenAgain

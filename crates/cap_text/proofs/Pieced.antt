@@ -219,11 +219,10 @@ declared_is front own all_of e = sym (same_end 62 own front) ∙ ap (λ t. bytes
 pub whole_rest : (n : ℕ) (t : List ℕ) → take (length t - n) (drop n t) ≡ drop n t
 whole_rest n t = take_all (length t - n) (drop n t) (omega (arith, length-drop n t))
 
-pub rest_closes : (tag own items : List ℕ) (at : ℕ) (b c : Bool) → own ≡ items → at ≡ length own - (length tag + 2) → c ≡ closes tag (take (length own - at) (drop at own)) → c ≡ b
-    → closes tag (drop (place_of tag items) items) ≡ b
-rest_closes tag own items at b c e p q r =
-    ap (λ t. closes tag (drop (place_of tag t) t)) (sym e)
-    ∙ (ap (λ n. closes tag (drop n own)) (sym p) ∙ (ap (closes tag) (sym (whole_rest at own)) ∙ (sym q ∙ r)))
+pub rest_closes : (tag front : List ℕ) (at : ℕ) (b c : Bool) → at ≡ length front - (length tag + 2) → c ≡ closes tag (take (length front - at) (drop at front)) → c ≡ b
+    → closes tag (drop (place_of tag front) front) ≡ b
+rest_closes tag front at b c p q r =
+    ap (λ n. closes tag (drop n front)) (sym p) ∙ (ap (closes tag) (sym (whole_rest at front)) ∙ (sym q ∙ r))
 
-pub content_at : (tag own items : List ℕ) (at : ℕ) → own ≡ items → at ≡ length own - (length tag + 2) → take at own ≡ take (place_of tag items) items
-content_at tag own items at e p = ap (λ n. take n own) p ∙ ap (λ t. take (place_of tag t) t) e
+pub content_at : (tag front : List ℕ) (at : ℕ) → at ≡ length front - (length tag + 2) → take at front ≡ take (place_of tag front) front
+content_at tag front at p = ap (λ n. take n front) p

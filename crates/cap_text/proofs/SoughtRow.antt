@@ -12,6 +12,8 @@ use Rattle.cap_text.specs.Bytes.{Reading, standing}
 use Rattle.cap_text.specs.SeenFrames.{left_of, start_of}
 use Rattle.cap_text.specs.Inner.{name_in, tagged, sought, sought_by, begun_by, entered, entered_by}
 use Rattle.cap_text.specs.SeenRows.{found_of}
+use Rattle.cap_text.specs.SeenDocs.{open_of, state_by, state_of, doc_in}
+use Rattle.cap_text.specs.declared.open.Open.{Open}
 use Rattle.cap_text.specs.declared.rows.Found.{Found as CodeFound}
 
 pub sought_row : (r : Option CodeFound) (left : Left) (front name : List ℕ) (ns : List Node) → name_in front ≡ Some name
@@ -29,6 +31,14 @@ begun_is false ns t e = ap (λ u. rows u 0 0) e
 
 pub stands : (k : Kind) (s t : State) (n m : Known) (r : Reading) → r ≡ standing (within k s) n [] → s ≡ t → n ≡ m → r ≡ standing (within k t) m []
 stands k s t n m r e f g = e ∙ ap (λ u. standing (within k u) n []) f ∙ ap (λ u. standing (within k t) u []) g
+
+-- and after the opening of a structure
+pub stands_open : (k : Kind) (o : Open) (fs : List Frame) (n m : Known) → o.kind ≡ k → o.leaf ≡ None → open_of o ≡ fs → n ≡ m → standing (doc_in o) n [] ≡ standing (within k (inside fs)) m []
+stands_open k o fs n m e f g h =
+    ap (λ j. standing (within j (state_of o)) n []) e
+    ∙ ap (λ l. standing (within k (state_by l (open_of o))) n []) f
+    ∙ ap (λ gs. standing (within k (inside gs)) n []) g
+    ∙ ap (λ u. standing (within k (inside fs)) u []) h
 
 -- ---- where a child that is opened leads
 

@@ -1,7 +1,6 @@
 -- One byte, by what it is.
-use Rattle.std.proofs.Common.{ℕ, ◌≡◌, ◌≤◌, ◌+◌, List, [], ◌∷◌, ◌++◌, length, take, sym, refl, ◌∙◌, ap, arith, length-append, Bool, true, false, nat_lt, Some, cond, not}
-use Rattle.std.specs.Prelude.{◌&&◌, ◌||◌, Result, Ok, Err, IfOk}
-use Rattle.std.proofs.lemmas.List.{length-take}
+use Rattle.std.proofs.Common.{ℕ, ◌≡◌, ◌+◌, List, [], ◌∷◌, ◌++◌, length, take, sym, refl, ◌∙◌, ap, Bool, true, false, nat_lt, Some, cond, not}
+use Rattle.std.specs.Prelude.{◌&&◌, ◌||◌, Result, Ok, Err, OnOk}
 use Rattle.cap_text.specs.Pieces.{blank, is_space}
 use Rattle.cap_text.specs.Faults.{Known, is_end}
 use Rattle.cap_text.specs.Machine.{Doc}
@@ -21,7 +20,7 @@ unstuck r b e = ap (λ t. cond t (barred r.doc r.known (take most (r.held ++ b �
     (cond (is_end b) (ended r.doc r.known (r.held ++ b ∷ []) (piece_of r.doc (r.held ++ b ∷ [])))
     (cond (nat_lt (length r.held + 1) most) (standing r.doc r.known (r.held ++ b ∷ [])) (barred r.doc r.known (r.held ++ b ∷ []) false))))) e
 
-empty_is : (h : List ℕ) → is_empty h ≡ true → h ≡ []
+pub empty_is : (h : List ℕ) → is_empty h ≡ true → h ≡ []
 empty_is [] e = refl
 empty_is (b ∷ bs) e = cc
 
@@ -68,9 +67,6 @@ holds_byte d n held text stuck ends new_stuck new_ends b s f skip e is ns ne =
     ∙ held_by (nat_lt (length held + 1) 128) d n (held ++ b ∷ [])
     ∙ sym (kept_on d n held stuck ends b s skip ∙ ap (λ t. cond t (ended d n (held ++ b ∷ []) (piece_of d (held ++ b ∷ []))) (cond (nat_lt (length held + 1) most) (standing d n (held ++ b ∷ [])) (barred d n (held ++ b ∷ []) false))) e)
 
-pub if_ok : {A E : Type 0} (result : Result A E) (P Q : A → Type 0) → ((x : A) → P x → Q x) → IfOk result P → IfOk result Q
-if_ok (Ok x) P Q f h = f x h
-if_ok (Err e) P Q f h = tt
-
-pub few_kept : (new old : List ℕ) (b : ℕ) → new ≡ take 128 (old ++ b ∷ []) → (length new ≤ 128) × (length new ≤ length old + 1)
-few_kept new old b e = (omega (arith, ap length e, length-take 128 (old ++ b ∷ [])), omega (arith, ap length e, length-take 128 (old ++ b ∷ []), length-append old (b ∷ [])))
+pub on_ok : {A E : Type 0} (result : Result A E) (P Q : Type 0) → (P → Q) → OnOk result P → OnOk result Q
+on_ok (Ok x) P Q f h = f h
+on_ok (Err e) P Q f h = tt

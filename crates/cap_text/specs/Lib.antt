@@ -10,6 +10,7 @@ pub mod Places
 pub mod SeenFrames
 pub mod SeenRows
 pub mod SeenDocs
+pub mod Runs
 pub mod Room
 pub mod Seen
 pub mod Verdicts

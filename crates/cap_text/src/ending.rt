@@ -1,4 +1,4 @@
-ghost use Rattle.std.specs.Prelude.{◌≡◌, ◌<◌, ◌≤◌, ◌+◌, ◌^◌, ◌++◌, ◌∷◌, ◌||◌, [], Some, None, IfOk, IfSome, MatchOption, true, false, length, option_map, List};
+ghost use Rattle.std.specs.Prelude.{◌≡◌, ◌<◌, ◌≤◌, ◌+◌, ◌^◌, ◌++◌, ◌∷◌, ◌||◌, [], Some, None, IfOk, OnOk, IfSome, MatchOption, true, false, length, option_map, List, ℕ};
 ghost use Rattle.std.specs.Str.{bytes_eq};
 ghost use Rattle.cap_leaf.specs.View.{content_view, table_view};
 ghost use Rattle.cap_leaf.specs.Trees.{value};
@@ -7,21 +7,18 @@ ghost use Rattle.cap_leaf.specs.declared.schema.Node.{Node};
 ghost use Rattle.cap_trees.specs.Tests.{bounded_in};
 ghost use Rattle.cap_text.specs.Pieces.{document, opening, closing, declaration_text, ending};
 ghost use Rattle.cap_text.specs.Faults.{told_by};
-ghost use Rattle.cap_text.specs.Machine.{close, inside, in_leaf, within, first, fresh};
+ghost use Rattle.cap_text.specs.Machine.{Doc as DocView, close, inside, in_leaf, within, first, fresh};
 ghost use Rattle.cap_text.specs.Bytes.{kinds, document_in as document_by, ended, piece_of, standing};
 ghost use Rattle.cap_text.specs.Inner.{closes as closes_tag, name_in as name_of, sought, entered, begun_by, opened_by};
 ghost use Rattle.cap_text.specs.Places.{place_in};
 ghost use Rattle.cap_text.specs.SeenFrames.{frame_of, frames_of, branch_of, start_of};
 ghost use Rattle.cap_text.specs.SeenRows.{found_of};
-ghost use Rattle.cap_text.specs.SeenDocs.{open_of, doc_of};
+ghost use Rattle.cap_text.specs.SeenDocs.{open_of, state_of, doc_in, doc_of, led_to, held_after};
 ghost use Rattle.cap_text.specs.SeenKnown.{known_of};
-ghost use Rattle.cap_text.specs.Seen.{reading_of};
 
 use crate::frames::{Frame, Left};
-use crate::held::Held;
 use crate::known::Known;
-use crate::open::{Doc, Open, OpenLeaf};
-use crate::reading::Reading;
+use crate::open::{Doc, Open, OpenLeaf, Outcome};
 use crate::rows::{Found, look, ready};
 use crate::write::document_front;
 use cap_base::Memory;
@@ -133,189 +130,206 @@ fn start(one: bool) -> Left
 
 // Opens a structure.
 fn open_structure(
-    kind: Kind,
-    stack: Open,
+    stack: &mut Open,
     node: &'static Node,
     one: bool,
-    known: Known,
-    bytes: u64,
     alloc: Global,
-) -> Result<Reading, Memory>
-    requires some { 1 ≤ bytes }
-    requires counted { known.depth ≤ known.place }
-    requires bounded { bounded_in (content_view node.now.shape) ≡ true }
-    ensures read { known.place + bytes < 2 ^ 64
-        → IfOk result (λ r. reading_of r ≡ standing (within kind (inside (fresh node.entry.now.tag.now (begun_by one (table_in (content_view node.entry.now.shape))) ∷ open_of stack))) (told_by (known_of known) (opening node.entry.now.tag.now) bytes) []) }
-    ensures few { IfOk result (λ r. r.known.place + length r.held.bytes.items ≤ known.place + bytes) }
+) -> Result<(), Memory>
+    requires { bounded_in (content_view node.now.shape) ≡ true }
+    ensures opened { OnOk result (open_of stack.new ≡ fresh node.entry.now.tag.now (begun_by one (table_in (content_view node.entry.now.shape))) ∷ open_of stack.old) }
+    ensures leaf { stack.new.leaf ≡ stack.old.leaf }
+    ensures kind { stack.new.kind ≡ stack.old.kind }
 {
     let inner = Frame::fresh(alloc, node.tag, node.shape.table(), start(one));
-    let stack = stack.push(inner)?;
-    Ok(Reading::standing(Doc::Inside(kind, stack), known.opened(node.tag, bytes)))
+    stack.push(inner)?;
+    Ok(())
 }
 
 // Opens a child.
 fn enter(
-    kind: Kind,
-    stack: Open,
+    stack: &mut Open,
     found: Found,
-    known: Known,
+    known: &mut Known,
     bytes: u64,
     alloc: Global,
-) -> Result<Reading, Memory>
+) -> Result<(), Memory>
     requires some { 1 ≤ bytes }
-    requires counted { known.depth ≤ known.place }
     requires bounded { bounded_in (content_view found.node.now.shape) ≡ true }
-    requires within { place_in found.left ≤ length stack.current.nodes.now }
-    ensures read { known.place + bytes < 2 ^ 64
-        → IfOk result (λ r. reading_of r ≡ entered kind (frame_of stack.current) (frames_of stack.outer.items) (known_of known) found.node.now.tag.now (found_of stack.current.nodes.now found) bytes) }
-    ensures few { IfOk result (λ r. r.known.place + length r.held.bytes.items ≤ known.place + bytes) }
+    requires within { place_in found.left ≤ length stack.old.current.nodes.now }
+    requires leaf { stack.old.leaf ≡ None }
+    ensures read { known.old.place + bytes < 2 ^ 64
+        → OnOk result (standing (doc_in stack.new) (known_of known.new) [] ≡ entered stack.old.kind (frame_of stack.old.current) (frames_of stack.old.outer.items) (known_of known.old) found.node.now.tag.now (found_of stack.old.current.nodes.now found) bytes) }
+    ensures few { known.new.place ≤ known.old.place + bytes }
 {
     let Found { node, left, at } = found;
-    let Open { current, outer } = stack;
-    let stack = Open {
-        current: current.at(left, at),
-        outer,
-    };
+    stack.current.enter(left, at);
     match node.shape {
-        Shape::Leaf(leaf) => {
-            let leaf = OpenLeaf {
-                tag: node.tag,
-                kind: leaf,
-                open: stack,
-            };
-            Ok(Reading::standing(Doc::InLeaf(kind, leaf), known.leaf_opened(node.tag, bytes)))
+        Shape::Leaf(kind) => {
+            let tag = node.tag;
+            stack.leaf = Some(OpenLeaf { tag, kind });
+            known.open_a_leaf(tag, bytes);
+            Ok(())
         }
-        Shape::All(_) => open_structure(kind, stack, node, false, known, bytes, alloc),
-        Shape::OneOf(_) => open_structure(kind, stack, node, true, known, bytes, alloc),
+        Shape::All(_) => {
+            known.open(node.tag, bytes);
+            open_structure(stack, node, false, alloc)
+        }
+        Shape::OneOf(_) => {
+            known.open(node.tag, bytes);
+            open_structure(stack, node, true, alloc)
+        }
     }
 }
 
 // Closes the innermost structure.
-fn close_structure(kind: Kind, stack: Open, known: Known, bytes: u64) -> Result<Reading, Memory>
-    requires { known.depth ≤ known.place }
-    ensures read { known.place + bytes < 2 ^ 64
-        → IfOk result (λ r. reading_of r ≡ standing (within kind (close (frames_of stack.outer.items) (branch_of (frame_of stack.current)))) (told_by (known_of known) (closing stack.current.tag.now) bytes) []) }
-    ensures few { IfOk result (λ r. r.known.place + length r.held.bytes.items ≤ known.place + bytes) }
+fn close_structure(
+    stack: &mut Open,
+    known: &mut Known,
+    bytes: u64,
+    alloc: Global,
+) -> Result<Outcome, Memory>
+    requires { stack.old.leaf ≡ None }
+    ensures read { known.old.place + bytes < 2 ^ 64
+        → IfOk result (λ o. (text : List ℕ) → led_to o (doc_in stack.new) (known_of known.new) text
+        ≡ standing (within stack.old.kind (close (frames_of stack.old.outer.items) (branch_of (frame_of stack.old.current)))) (told_by (known_of known.old) (closing stack.old.current.tag.now) bytes) []) }
+    ensures few { IfOk result (λ o. known.new.place + held_after o bytes ≤ known.old.place + bytes) }
 {
-    let known = known.closed(stack.current.tag, bytes);
-    let doc = stack.pop(kind)?;
-    Ok(Reading::standing(doc, known))
+    known.close(stack.current.tag, bytes);
+    match stack.pop(alloc)? {
+        Some(tree) => Ok(Outcome::Moved(Doc::Whole(stack.kind, tree))),
+        None => Ok(Outcome::Read),
+    }
 }
 
 // Closes a leaf.
-fn fill(
-    kind: Kind,
-    leaf: OpenLeaf,
-    read: Leaf,
-    content: &[u8],
-    known: Known,
-    bytes: u64,
-) -> Result<Reading, Memory>
-    requires { known.depth ≤ known.place }
-    ensures read { known.place + bytes < 2 ^ 64
-        → IfOk result (λ r. reading_of r ≡ standing (within kind (close (open_of leaf.open) (value read))) (told_by (known_of known) (ending leaf.tag.now content.now) bytes) []) }
-    ensures few { IfOk result (λ r. r.known.place + length r.held.bytes.items ≤ known.place + bytes) }
+fn fill(stack: &mut Open, read: Leaf) -> Result<(), Memory>
+    ensures filled { OnOk result (state_of stack.new ≡ close (open_of stack.old) (value read)) }
+    ensures kind { stack.new.kind ≡ stack.old.kind }
 {
-    let OpenLeaf { tag, kind: _, open } = leaf;
-    let known = known.ended(tag, content, bytes);
-    let stack = open.with(Tree::Leaf(read))?;
-    Ok(Reading::standing(Doc::Inside(kind, stack), known))
+    stack.leaf = None;
+    stack.keep(Tree::Leaf(read))?;
+    Ok(())
 }
 
 // Ends a piece inside a structure.
-fn end_inside(
-    held: Held,
-    kind: Kind,
-    stack: Open,
-    known: Known,
+fn end_in_structure(
+    stack: &mut Open,
+    known: &mut Known,
+    front: &[u8],
     alloc: Global,
-) -> Result<Reading, Memory>
-    requires room { length held.bytes.items < 128 }
-    requires counted { known.depth ≤ known.place }
-    ensures read { known.place + (length held.bytes.items + 1) < 2 ^ 64
-        → IfOk result (λ r. reading_of r ≡ ended (within kind (inside (open_of stack))) (known_of known) (held.bytes.items ++ 62 ∷ []) (piece_of (within kind (inside (open_of stack))) (held.bytes.items ++ 62 ∷ []))) }
-    ensures few { IfOk result (λ r. r.known.place + length r.held.bytes.items ≤ known.place + (length held.bytes.items + 1)) }
+) -> Result<Outcome, Memory>
+    requires { stack.old.leaf ≡ None }
+    ensures read { known.old.place + (length front.now + 1) < 2 ^ 64
+        → IfOk result (λ o. led_to o (doc_in stack.new) (known_of known.new) (front.now ++ 62 ∷ [])
+        ≡ ended (within stack.old.kind (inside (open_of stack.old))) (known_of known.old) (front.now ++ 62 ∷ []) (piece_of (within stack.old.kind (inside (open_of stack.old))) (front.now ++ 62 ∷ []))) }
+    ensures few { IfOk result (λ o. known.new.place + held_after o (length front.now + 1) ≤ known.old.place + (length front.now + 1)) }
 {
-    let front = held.bytes.as_slice();
     let bytes = front.len() as u64 + 1;
     if closes(front, stack.current.tag) {
         if ready(stack.current.nodes, stack.current.left) {
-            return close_structure(kind, stack, known, bytes);
+            return close_structure(stack, known, bytes, alloc);
         }
-        return Ok(Reading::barred(held, Doc::Inside(kind, stack), known));
+        return Ok(Outcome::Barred);
     }
     match found(front, &stack.current) {
-        Some(child) => enter(kind, stack, child, known, bytes, alloc),
-        None => Ok(Reading::barred(held, Doc::Inside(kind, stack), known)),
+        Some(child) => {
+            enter(stack, child, known, bytes, alloc)?;
+            Ok(Outcome::Read)
+        }
+        None => Ok(Outcome::Barred),
     }
 }
 
 // Ends a leaf.
-fn end_leaf(held: Held, kind: Kind, leaf: OpenLeaf, known: Known) -> Result<Reading, Memory>
-    requires room { length held.bytes.items < 128 }
-    requires counted { known.depth ≤ known.place }
-    ensures read { known.place + (length held.bytes.items + 1) < 2 ^ 64
-        → IfOk result (λ r. reading_of r ≡ ended (within kind (in_leaf leaf.tag.now leaf.kind (open_of leaf.open))) (known_of known) (held.bytes.items ++ 62 ∷ []) (piece_of (within kind (in_leaf leaf.tag.now leaf.kind (open_of leaf.open))) (held.bytes.items ++ 62 ∷ []))) }
-    ensures few { IfOk result (λ r. r.known.place + length r.held.bytes.items ≤ known.place + (length held.bytes.items + 1)) }
+fn end_leaf(
+    leaf: OpenLeaf,
+    stack: &mut Open,
+    known: &mut Known,
+    front: &[u8],
+) -> Result<Outcome, Memory>
+    requires { stack.old.leaf ≡ Some leaf }
+    ensures read { known.old.place + (length front.now + 1) < 2 ^ 64
+        → IfOk result (λ o. led_to o (doc_in stack.new) (known_of known.new) (front.now ++ 62 ∷ [])
+        ≡ ended (within stack.old.kind (in_leaf leaf.tag.now leaf.kind (open_of stack.old))) (known_of known.old) (front.now ++ 62 ∷ []) (piece_of (within stack.old.kind (in_leaf leaf.tag.now leaf.kind (open_of stack.old))) (front.now ++ 62 ∷ []))) }
+    ensures few { IfOk result (λ o. known.new.place + held_after o (length front.now + 1) ≤ known.old.place + (length front.now + 1)) }
 {
-    let front = held.bytes.as_slice();
-    let bytes = front.len() as u64 + 1;
     let at = front.len().saturating_sub(leaf.tag.len() + 2);
     let content = &front[..at];
     if !closes(&front[at..], leaf.tag) {
-        return Ok(Reading::barred(held, Doc::InLeaf(kind, leaf), known));
+        return Ok(Outcome::Barred);
     }
     match leaf_read(leaf.kind, content) {
-        Some(read) => fill(kind, leaf, read, content, known, bytes),
-        None => Ok(Reading::barred(held, Doc::InLeaf(kind, leaf), known)),
+        Some(read) => {
+            known.end_a_leaf(leaf.tag, content, front.len() as u64 + 1);
+            fill(stack, read)?;
+            Ok(Outcome::Read)
+        }
+        None => Ok(Outcome::Barred),
+    }
+}
+
+// Ends a piece inside `Document`.
+fn end_inside(
+    stack: &mut Open,
+    known: &mut Known,
+    front: &[u8],
+    alloc: Global,
+) -> Result<Outcome, Memory>
+    ensures read { known.old.place + (length front.now + 1) < 2 ^ 64
+        → IfOk result (λ o. led_to o (doc_in stack.new) (known_of known.new) (front.now ++ 62 ∷ [])
+        ≡ ended (doc_in stack.old) (known_of known.old) (front.now ++ 62 ∷ []) (piece_of (doc_in stack.old) (front.now ++ 62 ∷ []))) }
+    ensures few { IfOk result (λ o. known.new.place + held_after o (length front.now + 1) ≤ known.old.place + (length front.now + 1)) }
+{
+    match stack.leaf {
+        Some(leaf) => end_leaf(leaf, stack, known, front),
+        None => end_in_structure(stack, known, front, alloc),
     }
 }
 
 // Ends a piece before `Document` is open, other than a declaration.
-fn end_prolog(held: Held, doc: Doc, known: Known, alloc: Global) -> Result<Reading, Memory>
-    requires room { length held.bytes.items < 128 }
-    requires counted { known.depth ≤ known.place }
-    ensures read { known.place + (length held.bytes.items + 1) < 2 ^ 64
-        → IfOk result (λ r. reading_of r ≡ opened_by (doc_of doc) (known_of known) (held.bytes.items ++ 62 ∷ []) (length held.bytes.items + 1) (document_by kinds (held.bytes.items ++ 62 ∷ []))) }
-    ensures few { IfOk result (λ r. r.known.place + length r.held.bytes.items ≤ known.place + (length held.bytes.items + 1)) }
+fn end_prolog(known: &mut Known, front: &[u8], alloc: Global) -> Outcome
+    ensures read { known.old.place + (length front.now + 1) < 2 ^ 64
+        → (d : DocView) → led_to result d (known_of known.new) (front.now ++ 62 ∷ []) ≡ opened_by d (known_of known.old) (front.now ++ 62 ∷ []) (length front.now + 1) (document_by kinds (front.now ++ 62 ∷ [])) }
+    ensures few { known.new.place + held_after result (length front.now + 1) ≤ known.old.place + (length front.now + 1) }
 {
-    let front = held.bytes.as_slice();
-    let bytes = front.len() as u64 + 1;
     match document_in(front) {
-        Some(kind) => Ok(Reading::standing(Doc::root(alloc, kind), known.named(kind, bytes))),
-        None => Ok(Reading::barred(held, doc, known)),
+        Some(kind) => {
+            known.name(kind, front.len() as u64 + 1);
+            Outcome::Moved(Doc::root(alloc, kind))
+        }
+        None => Outcome::Barred,
     }
 }
 
 // Ends the first piece.
-fn end_first(held: Held, known: Known, alloc: Global) -> Result<Reading, Memory>
-    requires room { length held.bytes.items < 128 }
-    requires counted { known.depth ≤ known.place }
-    ensures read { known.place + (length held.bytes.items + 1) < 2 ^ 64
-        → IfOk result (λ r. reading_of r ≡ ended first (known_of known) (held.bytes.items ++ 62 ∷ []) (piece_of first (held.bytes.items ++ 62 ∷ []))) }
-    ensures few { IfOk result (λ r. r.known.place + length r.held.bytes.items ≤ known.place + (length held.bytes.items + 1)) }
+fn end_first(known: &mut Known, front: &[u8], alloc: Global) -> Outcome
+    ensures read { known.old.place + (length front.now + 1) < 2 ^ 64
+        → led_to result first (known_of known.new) (front.now ++ 62 ∷ []) ≡ ended first (known_of known.old) (front.now ++ 62 ∷ []) (piece_of first (front.now ++ 62 ∷ [])) }
+    ensures few { known.new.place + held_after result (length front.now + 1) ≤ known.old.place + (length front.now + 1) }
 {
-    let front = held.bytes.as_slice();
     if is_declaration(front) {
-        let bytes = front.len() as u64 + 1;
-        return Ok(Reading::standing(Doc::Prolog, known.passed(bytes)));
+        known.pass(front.len() as u64 + 1);
+        return Outcome::Moved(Doc::Prolog);
     }
-    end_prolog(held, Doc::First, known, alloc)
+    end_prolog(known, front, alloc)
 }
 
-/// Ends the piece that is held: what is held and a `>` are one, or can't be read.
-pub(crate) fn end(held: Held, doc: Doc, known: Known, alloc: Global) -> Result<Reading, Memory>
-    requires room { length held.bytes.items < 128 }
-    requires counted { known.depth ≤ known.place }
-    ensures read { known.place + (length held.bytes.items + 1) < 2 ^ 64
-        → IfOk result (λ r. reading_of r ≡ ended (doc_of doc) (known_of known) (held.bytes.items ++ 62 ∷ []) (piece_of (doc_of doc) (held.bytes.items ++ 62 ∷ []))) }
-    ensures few { IfOk result (λ r. r.known.place + length r.held.bytes.items ≤ known.place + (length held.bytes.items + 1)) }
+/// Ends a piece: what stood before its `>` and the `>` are one, or can't be read.
+pub(crate) fn end(
+    doc: &mut Doc,
+    known: &mut Known,
+    front: &[u8],
+    alloc: Global,
+) -> Result<Outcome, Memory>
+    ensures read { known.old.place + (length front.now + 1) < 2 ^ 64
+        → IfOk result (λ o. led_to o (doc_of doc.new) (known_of known.new) (front.now ++ 62 ∷ [])
+        ≡ ended (doc_of doc.old) (known_of known.old) (front.now ++ 62 ∷ []) (piece_of (doc_of doc.old) (front.now ++ 62 ∷ []))) }
+    ensures few { IfOk result (λ o. known.new.place + held_after o (length front.now + 1) ≤ known.old.place + (length front.now + 1)) }
 {
     match doc {
-        Doc::First => end_first(held, known, alloc),
-        Doc::Prolog => end_prolog(held, Doc::Prolog, known, alloc),
-        Doc::Inside(kind, stack) => end_inside(held, kind, stack, known, alloc),
-        Doc::InLeaf(kind, leaf) => end_leaf(held, kind, leaf, known),
-        Doc::Whole(kind, tree) => Ok(Reading::barred(held, Doc::Whole(kind, tree), known)),
+        Doc::First => Ok(end_first(known, front, alloc)),
+        Doc::Prolog => Ok(end_prolog(known, front, alloc)),
+        Doc::Inside(stack) => end_inside(stack, known, front, alloc),
+        Doc::Whole(..) => Ok(Outcome::Barred),
     }
 }

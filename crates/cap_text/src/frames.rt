@@ -6,6 +6,7 @@ ghost use Rattle.cap_text.specs.Places.{place_in};
 use cap_leaf::{Child, Node, Tree};
 use sqlite_items::Items;
 use std::alloc::{AllocError, Global};
+use std::mem;
 
 /// What may still stand in a structure.
 #[derive(Clone, Copy, Debug)]
@@ -32,7 +33,7 @@ pub(crate) struct Frame {
 }
 
 impl Frame {
-    ghost use Rattle.std.specs.Prelude.{IfOk};
+    ghost use Rattle.std.specs.Prelude.{OnOk};
     ghost use Rattle.cap_leaf.specs.Trees.{data_of};
     ghost use Rattle.cap_text.specs.Machine.{fresh};
     ghost use Rattle.cap_text.specs.SeenFrames.{frame_of, left_of, with_child};
@@ -54,44 +55,26 @@ impl Frame {
     }
 
     /// Keeps the tree of the child that was opened last.
-    pub fn with(self, tree: Tree) -> Result<Frame, AllocError>
-        ensures { IfOk result (λ f. frame_of f ≡ with_child (frame_of self) (data_of tree)) }
+    pub fn keep(&mut self, tree: Tree) -> Result<(), AllocError>
+        ensures { OnOk result (frame_of self.new ≡ with_child (frame_of self.old) (data_of tree)) }
     {
-        let Frame {
-            tag,
-            nodes,
-            left,
-            last,
-            mut done,
-        } = self;
-        done.push(Child { at: last, tree })?;
-        Ok(Frame {
-            tag,
-            nodes,
-            left,
-            last,
-            done,
-        })
+        let at = self.last;
+        self.done.push(Child { at, tree })
     }
 
     /// Opens a child at a place.
-    pub fn at(self, left: Left, last: u8) -> Frame
-        requires { place_in left ≤ length self.nodes.now }
-        ensures { frame_of result ≡ record (frame_of self) { left = left_of self.nodes.now left; last = last } }
+    pub fn enter(&mut self, left: Left, last: u8)
+        requires { place_in left ≤ length self.old.nodes.now }
+        ensures { frame_of self.new ≡ record (frame_of self.old) { left = left_of self.old.nodes.now left; last = last } }
     {
-        let Frame {
-            tag,
-            nodes,
-            left: _,
-            last: _,
-            done,
-        } = self;
-        Frame {
-            tag,
-            nodes,
-            left,
-            last,
-            done,
-        }
+        self.left = left;
+        self.last = last;
+    }
+
+    /// Gives the children up, as it is closed.
+    pub fn take(&mut self, alloc: Global) -> Items<Child>
+        ensures { result ≡ self.old.done }
+    {
+        mem::replace(&mut self.done, Items::new(alloc))
     }
 }

@@ -16,6 +16,7 @@ pub(crate) struct Known {
     pub closed: bool,
     pub open_leaf: bool,
     pub version: bool,
+    ghost counted: { depth ≤ place },
 }
 
 impl Known {
@@ -25,7 +26,6 @@ impl Known {
 
     pub fn nothing() -> Known
         ensures known { known_of result ≡ nothing }
-        ensures counted { result.depth ≤ result.place }
         ensures place { result.place ≡ 0 }
     {
         Known {
@@ -41,88 +41,69 @@ impl Known {
         }
     }
 
-    /// After so many bytes that tell nothing else.
-    pub fn passed(self, bytes: u64) -> Known
-        ensures known { self.place + bytes < 2 ^ 64 → known_of result ≡ passed_by (known_of self) bytes }
-        ensures counted { self.depth ≤ self.place → result.depth ≤ result.place }
-        ensures place { result.place ≤ self.place + bytes }
+    /// So many bytes that tell nothing else.
+    pub fn pass(&mut self, bytes: u64)
+        ensures known { self.old.place + bytes < 2 ^ 64 → known_of self.new ≡ passed_by (known_of self.old) bytes }
+        ensures place { self.new.place ≤ self.old.place + bytes }
     {
-        let mut known = self;
-        known.place = known.place.saturating_add(bytes);
-        known
+        self.place = self.place.saturating_add(bytes);
     }
 
-    /// After the opening of `Document`.
-    pub fn named(self, kind: Kind, bytes: u64) -> Known
+    /// The opening of `Document`.
+    pub fn name(&mut self, kind: Kind, bytes: u64)
         requires { 1 ≤ bytes }
-        ensures known { self.place + bytes < 2 ^ 64 → known_of result ≡ told_by (known_of self) (document kind) bytes }
-        ensures counted { result.depth ≤ result.place }
-        ensures place { result.place ≤ self.place + bytes }
+        ensures known { self.old.place + bytes < 2 ^ 64 → known_of self.new ≡ told_by (known_of self.old) (document kind) bytes }
+        ensures place { self.new.place ≤ self.old.place + bytes }
     {
-        let mut known = self;
-        known.named = Some(kind);
-        known.depth = 1;
-        known.place = known.place.saturating_add(bytes);
-        known
+        self.named = Some(kind);
+        self.place = self.place.saturating_add(bytes);
+        self.depth = 1;
     }
 
-    /// After the opening of a structure.
-    pub fn opened(self, tag: &str, bytes: u64) -> Known
-        requires some { 1 ≤ bytes }
-        requires counted { self.depth ≤ self.place }
-        ensures known { self.place + bytes < 2 ^ 64 → known_of result ≡ told_by (known_of self) (opening tag.now) bytes }
-        ensures counted { result.depth ≤ result.place }
-        ensures place { result.place ≤ self.place + bytes }
+    /// The opening of a structure.
+    pub fn open(&mut self, tag: &str, bytes: u64)
+        requires { 1 ≤ bytes }
+        ensures known { self.old.place + bytes < 2 ^ 64 → known_of self.new ≡ told_by (known_of self.old) (opening tag.now) bytes }
+        ensures place { self.new.place ≤ self.old.place + bytes }
     {
-        let mut known = self;
-        known.depth = known.depth.saturating_add(1);
-        known.initiator = tag == "InitgPty";
-        known.place = known.place.saturating_add(bytes);
-        known
+        self.place = self.place.saturating_add(bytes);
+        self.depth = self.depth.saturating_add(1);
+        self.initiator = tag == "InitgPty";
     }
 
-    /// After the closing of a structure.
-    pub fn closed(self, tag: &str, bytes: u64) -> Known
-        ensures known { self.place + bytes < 2 ^ 64 → known_of result ≡ told_by (known_of self) (closing tag.now) bytes }
-        ensures counted { self.depth ≤ self.place → result.depth ≤ result.place }
-        ensures place { result.place ≤ self.place + bytes }
+    /// The closing of a structure.
+    pub fn close(&mut self, tag: &str, bytes: u64)
+        ensures known { self.old.place + bytes < 2 ^ 64 → known_of self.new ≡ told_by (known_of self.old) (closing tag.now) bytes }
+        ensures place { self.new.place ≤ self.old.place + bytes }
     {
-        let mut known = self;
-        known.depth = known.depth.saturating_sub(1);
-        known.closed = tag != "Hdr";
-        known.place = known.place.saturating_add(bytes);
-        known
+        self.place = self.place.saturating_add(bytes);
+        self.depth = self.depth.saturating_sub(1);
+        self.closed = tag != "Hdr";
     }
 
-    /// After the opening of a leaf.
-    pub fn leaf_opened(self, tag: &str, bytes: u64) -> Known
-        ensures known { self.place + bytes < 2 ^ 64 → known_of result ≡ told_by (known_of self) (leaf_opening tag.now) bytes }
-        ensures counted { self.depth ≤ self.place → result.depth ≤ result.place }
-        ensures place { result.place ≤ self.place + bytes }
+    /// The opening of a leaf.
+    pub fn open_a_leaf(&mut self, tag: &str, bytes: u64)
+        ensures known { self.old.place + bytes < 2 ^ 64 → known_of self.new ≡ told_by (known_of self.old) (leaf_opening tag.now) bytes }
+        ensures place { self.new.place ≤ self.old.place + bytes }
     {
-        let mut known = self;
-        known.open_leaf = true;
-        known.version = tag == "PrtcolVrsn";
-        known.place = known.place.saturating_add(bytes);
-        known
+        self.open_leaf = true;
+        self.version = tag == "PrtcolVrsn";
+        self.place = self.place.saturating_add(bytes);
     }
 
-    /// After a leaf's content and its closing.
-    pub fn ended(self, tag: &str, content: &[u8], bytes: u64) -> Known
-        ensures known { self.place + bytes < 2 ^ 64 → known_of result ≡ told_by (known_of self) (ending tag.now content.now) bytes }
-        ensures counted { self.depth ≤ self.place → result.depth ≤ result.place }
-        ensures place { result.place ≤ self.place + bytes }
+    /// A leaf's content and its closing.
+    pub fn end_a_leaf(&mut self, tag: &str, content: &[u8], bytes: u64)
+        ensures known { self.old.place + bytes < 2 ^ 64 → known_of self.new ≡ told_by (known_of self.old) (ending tag.now content.now) bytes }
+        ensures place { self.new.place ≤ self.old.place + bytes }
     {
-        let mut known = self;
         if tag == "XchgId" {
-            known.exchange = read_number(content, 10).unwrap_or(0);
+            self.exchange = read_number(content, 10).unwrap_or(0);
         }
-        if tag == "Id" && known.initiator {
-            known.from = Ident::read(content);
+        if tag == "Id" && self.initiator {
+            self.from = Ident::read(content);
         }
-        known.open_leaf = false;
-        known.version = false;
-        known.place = known.place.saturating_add(bytes);
-        known
+        self.open_leaf = false;
+        self.version = false;
+        self.place = self.place.saturating_add(bytes);
     }
 }

@@ -5,21 +5,23 @@ use crate::frames::{Frame, Left};
 use cap_leaf::{Kind, LeafKind, Tree};
 use cap_trees::schema_of;
 use std::alloc::{AllocError, Global};
+use std::mem;
 
-/// The structures that are open, the innermost apart.
-#[derive(Drop)]
-pub(crate) struct Open {
-    pub current: Frame,
-    pub outer: Vec<Frame>,
-}
-
-/// A leaf that is open, in open structures.
-#[derive(Drop)]
+/// A leaf that is open.
+#[derive(Clone, Copy, Drop)]
 pub(crate) struct OpenLeaf {
     pub tag: &'static str,
     pub kind: LeafKind,
-    pub open: Open,
     ghost good: { is_kind kind ≡ true },
+}
+
+/// The structures of a message that are open, the innermost apart, and a leaf that is open in them.
+#[derive(Drop)]
+pub(crate) struct Open {
+    pub kind: Kind,
+    pub current: Frame,
+    pub outer: Vec<Frame>,
+    pub leaf: Option<OpenLeaf>,
 }
 
 /// Where a document stands.
@@ -27,51 +29,60 @@ pub(crate) struct OpenLeaf {
 pub(crate) enum Doc {
     First,
     Prolog,
-    Inside(Kind, Open),
-    InLeaf(Kind, OpenLeaf),
+    Inside(Open),
     Whole(Kind, Tree),
 }
 
+/// Where the end of a text leads.
+#[derive(Drop)]
+pub(crate) enum Outcome {
+    /// It can't be read.
+    Barred,
+    /// It is a piece that leads on in what is open.
+    Read,
+    /// It is a piece that leads here.
+    Moved(Doc),
+}
+
 impl Open {
-    ghost use Rattle.std.specs.Prelude.{IfOk, ◌∷◌};
+    ghost use Rattle.std.specs.Prelude.{IfOk, OnOk, ◌∷◌};
     ghost use Rattle.cap_leaf.specs.Trees.{data_of};
-    ghost use Rattle.cap_text.specs.Machine.{close, inside, within};
+    ghost use Rattle.cap_text.specs.Machine.{close, inside};
     ghost use Rattle.cap_text.specs.SeenFrames.{frame_of, frames_of, branch_of};
-    ghost use Rattle.cap_text.specs.SeenDocs.{open_of, doc_of};
+    ghost use Rattle.cap_text.specs.SeenDocs.{open_of, closed_to};
 
     /// Puts an element that is closed into the innermost structure.
-    pub fn with(self, tree: Tree) -> Result<Open, AllocError>
-        ensures { IfOk result (λ o. inside (open_of o) ≡ close (open_of self) (data_of tree)) }
+    pub fn keep(&mut self, tree: Tree) -> Result<(), AllocError>
+        ensures kept { OnOk result (inside (open_of self.new) ≡ close (open_of self.old) (data_of tree)) }
+        ensures leaf { self.new.leaf ≡ self.old.leaf }
+        ensures kind { self.new.kind ≡ self.old.kind }
     {
-        let Open { current, outer } = self;
-        let current = current.with(tree)?;
-        Ok(Open { current, outer })
+        self.current.keep(tree)
     }
 
     /// Opens a structure in the innermost one.
-    pub fn push(self, inner: Frame) -> Result<Open, AllocError>
-        ensures { IfOk result (λ o. open_of o ≡ frame_of inner ∷ open_of self) }
+    pub fn push(&mut self, inner: Frame) -> Result<(), AllocError>
+        ensures pushed { OnOk result (open_of self.new ≡ frame_of inner ∷ open_of self.old) }
+        ensures leaf { self.new.leaf ≡ self.old.leaf }
+        ensures kind { self.new.kind ≡ self.old.kind }
     {
-        let Open { current, mut outer } = self;
-        outer.push(current)?;
-        Ok(Open {
-            current: inner,
-            outer,
-        })
+        let around = mem::replace(&mut self.current, inner);
+        self.outer.push(around)?;
+        Ok(())
     }
 
-    /// Closes the innermost structure.
-    pub fn pop(self, kind: Kind) -> Result<Doc, AllocError>
-        ensures { IfOk result (λ d. doc_of d ≡ within kind (close (frames_of self.outer.items) (branch_of (frame_of self.current)))) }
+    /// Closes the innermost structure: its tree, where it stands in no other.
+    pub fn pop(&mut self, alloc: Global) -> Result<Option<Tree>, AllocError>
+        ensures popped { IfOk result (λ whole. closed_to whole (open_of self.new) ≡ close (frames_of self.old.outer.items) (branch_of (frame_of self.old.current))) }
+        ensures leaf { self.new.leaf ≡ self.old.leaf }
+        ensures kind { self.new.kind ≡ self.old.kind }
     {
-        let Open { current, mut outer } = self;
-        let Frame { done, .. } = current;
-        let tree = Tree::Branch(done);
-        match outer.pop() {
-            None => Ok(Doc::Whole(kind, tree)),
+        match self.outer.pop() {
+            None => Ok(Some(Tree::Branch(self.current.take(alloc)))),
             Some(around) => {
-                let current = around.with(tree)?;
-                Ok(Doc::Inside(kind, Open { current, outer }))
+                let Frame { done, .. } = mem::replace(&mut self.current, around);
+                self.current.keep(Tree::Branch(done))?;
+                Ok(None)
             }
         }
     }
@@ -88,13 +99,12 @@ impl Doc {
     {
         let left = Left::Rows { at: 0, count: 0 };
         let current = Frame::fresh(alloc, "Document", schema_of(kind), left);
-        Doc::Inside(
+        Doc::Inside(Open {
             kind,
-            Open {
-                current,
-                outer: Vec::new(alloc),
-            },
-        )
+            current,
+            outer: Vec::new(alloc),
+            leaf: None,
+        })
     }
 
     /// Whether white space may stand here.
@@ -102,18 +112,17 @@ impl Doc {
         ensures { result ≡ blank_test (doc_of self.now) }
     {
         match self {
-            Doc::InLeaf(..) => false,
+            Doc::Inside(stack) => stack.leaf.is_none(),
             _ => true,
         }
     }
 
-    /// After white space.
-    pub fn passed(self) -> Doc
-        ensures { doc_of result ≡ blanked (doc_of self) }
+    /// White space.
+    pub fn pass(&mut self)
+        ensures { doc_of self.new ≡ blanked (doc_of self.old) }
     {
-        match self {
-            Doc::First => Doc::Prolog,
-            other => other,
+        if let Doc::First = self {
+            *self = Doc::Prolog;
         }
     }
 }

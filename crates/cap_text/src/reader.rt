@@ -37,12 +37,15 @@ impl PieceReader {
         ensures failed { HasFailed self.old → IsErr result }
         ensures held { held_by self.new ≤ 128 }
     {
-        match self.reading.take() {
+        let alloc = self.alloc;
+        match &mut self.reading {
             None => Err(Memory),
             Some(reading) => {
-                let next = reading.feed(self.alloc, piece)?;
-                self.reading = Some(next);
-                Ok(())
+                let fed = reading.feed(alloc, piece);
+                if fed.is_err() {
+                    self.reading = None;
+                }
+                fed
             }
         }
     }
@@ -52,6 +55,7 @@ impl PieceReader {
         ensures read { (bytes : List ℕ) → HasRead self bytes → MatchResult result (λ d. Spells d.0 (data_of d.1) bytes) (λ e. IsFaultOf bytes e) }
         ensures fits { (bytes : List ℕ) → HasRead self bytes → IfOk result (λ d. FitsKind d.0 (data_of d.1)) }
         ensures failed { HasFailed self → IsErr result }
+        ensures memory { HasFailed self → result ≡ Err ReadError.Memory }
     {
         match self.reading {
             None => Err(ReadError::Memory),

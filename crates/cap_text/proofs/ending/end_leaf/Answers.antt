@@ -1,37 +1,31 @@
-use Rattle.std.proofs.Common.{ℕ, ◌≡◌, ◌+◌, ◌<◌, ◌^◌, ◌∙◌, List, [], length, take, true, false, ap, sym, subst}
+use Rattle.std.proofs.Common.{◌+◌, ◌++◌, ◌∷◌, [], List, ℕ, length, true, false, ap, sym, refl, ◌∙◌}
 use Rattle.cap_leaf.specs.Spelling.{leaf_of}
-use Rattle.cap_leaf.specs.Trees.{value}
 use Rattle.cap_text.specs.Pieces.{ending}
 use Rattle.cap_text.specs.Faults.{told_by}
-use Rattle.cap_text.specs.Machine.{within, close}
-use Rattle.cap_text.specs.Bytes.{standing}
-use Rattle.cap_text.specs.SeenDocs.{open_of}
+use Rattle.cap_text.specs.Machine.{within}
+use Rattle.cap_text.specs.Bytes.{standing, barred}
+use Rattle.cap_text.specs.SeenDocs.{open_of, state_of, state_by}
 use Rattle.cap_text.specs.SeenKnown.{known_of}
-use Rattle.cap_text.proofs.Stepping.{if_ok}
-use Rattle.cap_text.proofs.Fronts.{place_of}
+use Rattle.cap_text.proofs.SoughtRow.{stands}
 use Rattle.cap_text.proofs.Pieced.{ended_filled, ended_unclosed, rest_closes, content_at}
 use Rattle.cap_text.proofs.ending.end_leaf.Goals as goal
 
 pub returns-then-not-closes-clause-read : goal.returns-then-not-closes-clause-read
 returns-then-not-closes-clause-read c = λ fits.
-    c.barred.ensures.read
-    ∙ ended_unclosed c.args.kind c.args.leaf.tag.now c.args.leaf.kind (open_of c.args.leaf.open) (known_of c.args.known) c.args.held.bytes.items
-    (rest_closes c.args.leaf.tag.now c.as_slice-front.result.now c.args.held.bytes.items c.saturating_sub-at.result false c.closes.result
-    c.as_slice-front.ensures.value c.saturating_sub-at.ensures c.closes.ensures c.if-not-closes.true)
+    ap (λ l. barred (within c.args.stack.now.kind (state_by l (open_of c.args.stack.now))) (known_of c.args.known.now) (c.args.front.now ++ 62 ∷ []) true) c.requires
+    ∙ ended_unclosed c.args.stack.now.kind c.args.leaf.tag.now c.args.leaf.kind (open_of c.args.stack.now) (known_of c.args.known.now) c.args.front.now
+    (rest_closes c.args.leaf.tag.now c.args.front.now c.saturating_sub-at.result false c.closes.result c.saturating_sub-at.ensures c.closes.ensures c.if-not-closes.true)
 
-pub returns-in-Some-clause-read : goal.returns-in-Some-clause-read
-returns-in-Some-clause-read c = λ fits.
-    let same = c.as_slice-front.ensures.value in
-    let len : length c.as_slice-front.result.now ≡ length c.args.held.bytes.items = ap length same in
+pub returns-in_ok-fill-in-Some-clause-read : goal.returns-in_ok-fill-in-Some-clause-read
+returns-in_ok-fill-in-Some-clause-read c = λ fits.
+    let k = c.args.stack.now.kind in
     let tag = c.args.leaf.tag.now in
-    let content = content_at tag c.as_slice-front.result.now c.args.held.bytes.items c.saturating_sub-at.result same c.saturating_sub-at.ensures in
-    let n = known_of c.args.known in
-    let place = within c.args.kind (close (open_of c.args.leaf.open) (value c.in-Some.read)) in
-    if_ok c.fill.result _ _
-    (λ r h. h
-    ∙ (ap (λ (t : List ℕ). standing place (told_by n (ending tag t) (length c.as_slice-front.result.now + 1)) []) content
-    ∙ (ap (λ m. standing place (told_by n (ending tag (take (place_of tag c.args.held.bytes.items) c.args.held.bytes.items)) (m + 1)) []) len
-    ∙ ended_filled c.args.kind tag c.args.leaf.kind (open_of c.args.leaf.open) n c.args.held.bytes.items c.in-Some.read
-    (rest_closes tag c.as_slice-front.result.now c.args.held.bytes.items c.saturating_sub-at.result true c.closes.result same c.saturating_sub-at.ensures c.closes.ensures c.if-not-closes.false)
-    (ap (leaf_of c.args.leaf.kind) (sym content) ∙ sym c.in-Some.ensures.value))))
-    (c.fill.ensures.read (let P : ℕ → Type 0 = λ m. c.args.known.place + (m + 1) < 2 ^ 64 in subst P (sym len) fits))
+    let front = c.args.front.now in
+    let n = known_of c.args.known.now in
+    let content = content_at tag front c.saturating_sub-at.result c.saturating_sub-at.ensures in
+    ap (λ j. standing (within j (state_of c.fill.new.stack)) (known_of c.end_a_leaf.new.self) []) c.fill.ensures.kind
+    ∙ stands k _ _ _ _ _ refl c.in_ok-fill-in-Some.ensures.filled
+    (c.end_a_leaf.ensures.known fits ∙ ap (λ (t : List ℕ). told_by n (ending tag t) (length front + 1)) content)
+    ∙ ended_filled k tag c.args.leaf.kind (open_of c.args.stack.now) n front c.in-Some.read
+    (rest_closes tag front c.saturating_sub-at.result true c.closes.result c.saturating_sub-at.ensures c.closes.ensures c.if-not-closes.false)
+    (ap (leaf_of c.args.leaf.kind) (sym content) ∙ sym c.in-Some.ensures.value)

@@ -1,10 +1,10 @@
 use Rattle.std.proofs.Common.{◌∙◌, ap}
 use Rattle.cap_text.specs.Machine.{close}
-use Rattle.cap_text.specs.SeenDocs.{open_of}
+use Rattle.cap_text.specs.SeenDocs.{open_of, state_by}
 use Rattle.cap_text.proofs.Seeing.{data_leaf}
-use Rattle.cap_text.proofs.SoughtRow.{stands}
 use Rattle.cap_text.proofs.ending.fill.Goals as goal
 
-pub returns-clause-read : goal.returns-clause-read
-returns-clause-read c = λ fits.
-    stands c.args.kind _ _ _ _ _ c.standing.ensures.read (c.in_ok-stack.ensures ∙ ap (close (open_of c.args.leaf.open)) (data_leaf c.args.read)) (c.ended-known.ensures.known fits)
+pub returns-clause-filled : goal.returns-clause-filled
+returns-clause-filled c =
+    ap (λ l. state_by l (open_of c.keep.new.self)) c.keep.ensures.leaf
+    ∙ (c.in_ok-keep.ensures.kept ∙ ap (close (open_of c.args.stack.now)) (data_leaf c.args.read))

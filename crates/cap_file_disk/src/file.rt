@@ -1,5 +1,5 @@
 // A disk over a file: the trusted edge. It tells nothing of content.
-ghost use Rattle.std.specs.Prelude.{◌≡◌, ◌^◌, ℕ, List, [], Bool, false, None, IsErr};
+ghost use Rattle.std.specs.Prelude.{◌≡◌, ◌<◌, ◌≤◌, ◌+◌, ◌^◌, ℕ, List, [], length, Bool, true, false, None, IsErr, IsSome};
 ghost use Rattle.std.proofs.lemmas.Bool.{false≢true};
 ghost use Rattle.cap_base.specs.Causes.{HasCause};
 
@@ -26,6 +26,7 @@ pub struct FileDisk<R: Files<File = File> + Drop> {
     /// Whether a sync has failed.
     is_lost: bool,
     faults: u64,
+    ghost shut: { is_lost ≡ true → file ≡ None },
 }
 
 impl<R: Files<File = File> + Drop> FileDisk<R> {
@@ -45,9 +46,14 @@ impl<R: Files<File = File> + Drop> FileDisk<R> {
 
     // Opens the file, or makes an empty one, where it isn't open yet.
     fn open(&mut self)
-        ensures { self.new.faults ≡ self.old.faults }
+        ensures faults { self.new.faults ≡ self.old.faults }
+        ensures lost { self.old.is_lost ≡ true → self.new ≡ self.old }
+        ensures opened { IsSome self.old.file → IsSome self.new.file }
     {
-        if self.is_lost || self.file.is_some() {
+        if self.is_lost {
+            return;
+        }
+        if self.file.is_some() {
             return;
         }
         if let Ok(file) = open_locked(&self.rt, self.path.as_str()) {
@@ -63,6 +69,7 @@ impl<R: Files<File = File> + Drop> FileDisk<R> {
     fn fault<T>(&mut self) -> Result<T, Failed>
         ensures err { IsErr result }
         ensures cause { HasCause self.old.faults self.new.faults result }
+        ensures lost { self.new.is_lost ≡ self.old.is_lost }
     {
         self.faults = self.faults.saturating_add(1);
         Err(Failed)
@@ -175,7 +182,10 @@ impl<R: Files<File = File> + Drop> Disk for FileDisk<R> {
 
     ghost shows_one = { λ _ told. absurd (false≢true told) };
 
-    fn len(&mut self) -> Result<u64, Failed> {
+    fn len(&mut self) -> Result<u64, Failed>
+        ensures cause { HasCause self.old.faults self.new.faults result }
+        ensures lost { self.old.is_lost ≡ true → IsErr result × (self.new.is_lost ≡ true) }
+    {
         self.open();
         if let Some(file) = &self.file {
             if let Ok(metadata) = file.metadata() {
@@ -185,7 +195,10 @@ impl<R: Files<File = File> + Drop> Disk for FileDisk<R> {
         self.fault()
     }
 
-    fn read_at(&mut self, place: u64, buf: &mut [u8]) -> Result<(), Failed> {
+    fn read_at(&mut self, place: u64, buf: &mut [u8]) -> Result<(), Failed>
+        ensures cause { HasCause self.old.faults self.new.faults result }
+        ensures lost { self.old.is_lost ≡ true → IsErr result × (self.new.is_lost ≡ true) }
+    {
         self.open();
         if let Some(file) = &mut self.file {
             if file.seek(SeekFrom::Start(place)).is_ok() && read_whole(file, buf) {
@@ -195,7 +208,11 @@ impl<R: Files<File = File> + Drop> Disk for FileDisk<R> {
         self.fault()
     }
 
-    fn write_at(&mut self, place: u64, bytes: &[u8]) -> Result<(), Failed> {
+    fn write_at(&mut self, place: u64, bytes: &[u8]) -> Result<(), Failed>
+        requires fits { place + length bytes.now < 2 ^ 63 }
+        ensures cause { HasCause self.old.faults self.new.faults result }
+        ensures lost { self.old.is_lost ≡ true → IsErr result × (self.new.is_lost ≡ true) }
+    {
         self.open();
         if let Some(file) = &mut self.file {
             if file.seek(SeekFrom::Start(place)).is_ok() && write_whole(file, bytes) {
@@ -205,7 +222,11 @@ impl<R: Files<File = File> + Drop> Disk for FileDisk<R> {
         self.fault()
     }
 
-    fn sync(&mut self) -> Result<(), Failed> {
+    fn sync(&mut self) -> Result<(), Failed>
+        ensures cause { HasCause self.old.faults self.new.faults result }
+        ensures lost { self.old.is_lost ≡ true → IsErr result × (self.new.is_lost ≡ true) }
+        ensures last { IsSome self.old.file → IsErr result → self.new.is_lost ≡ true }
+    {
         self.open();
         if let Some(file) = self.file.take() {
             if file.sync_all().is_ok() {

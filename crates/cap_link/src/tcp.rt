@@ -7,12 +7,25 @@ ghost use Rattle.cap_link.specs.Lines.{Lines, untold};
 use crate::link::Link;
 use cap_base::{Failed, PutError};
 use std::io::{ErrorKind, Read, Write};
-use std::net::{Net, OpenListener, TcpListener, TcpStream};
+use std::net::{Net, OpenListener, OpenStream, Shutdown, TcpListener, TcpStream};
+use std::time::Duration;
 
-/// How often a call tries again after an interruption.
+/// How often a call tries again after an interruption, or after a connection that its peer gave up before it was accepted.
 const MOST_TRIES: u32 = 1000;
 
-/// A link over TCP, which listens or calls.
+/// How many seconds a call waits for its peer.
+const IDLE_SECONDS: u64 = 30;
+
+/// How many seconds closing waits for more of what the peer still sends.
+const CLOSING_SECONDS: u64 = 5;
+
+/// How often closing reads, and how many bytes at most each time.
+const CLOSING_READS: u32 = 16;
+
+const CLOSING_BYTES: usize = 4096;
+
+/// A link over TCP, which listens or calls. A peer that is silent for 30 seconds where bytes are awaited, or that takes none for as
+/// long, is a fault of its connection.
 #[derive(Drop)]
 pub struct TcpLink<R: Net + Drop> {
     rt: R,
@@ -94,6 +107,59 @@ impl<R: Net + Drop> TcpLink<R> {
     }
 }
 
+// The next connection that comes. One that its peer gave up before, or that the network lost, is passed over.
+fn accepted<L: OpenListener>(listener: &L) -> Option<L::Stream> {
+    for _ in 0..MOST_TRIES {
+        match listener.accept() {
+            Ok((stream, _)) => return Some(stream),
+            Err(error) => match error.kind() {
+                ErrorKind::ConnectionAborted
+                | ErrorKind::ConnectionReset
+                | ErrorKind::HostUnreachable
+                | ErrorKind::NetworkUnreachable
+                | ErrorKind::NetworkDown
+                | ErrorKind::Interrupted => {}
+                _ => return None,
+            },
+        }
+    }
+    None
+}
+
+// Lets a stream send small frames at once, and wait for its peer no longer than the limit. Where the limit can't be set, the stream is
+// not used: it might wait forever.
+fn is_limited<S: OpenStream>(stream: &S) -> bool {
+    let _ = stream.set_nodelay(true);
+    let limit = Duration::from_secs(IDLE_SECONDS);
+    stream.set_read_timeout(Some(limit)).is_ok() && stream.set_write_timeout(Some(limit)).is_ok()
+}
+
+// Says that nothing more is sent, and reads what the peer still sends, up to a bound. A stream that is dropped with bytes unread is
+// reset, and the peer may then lose the last reply.
+fn end<S: Read + OpenStream>(stream: &mut S) {
+    if stream.shutdown(Shutdown::Write).is_err() {
+        return;
+    }
+    if stream
+        .set_read_timeout(Some(Duration::from_secs(CLOSING_SECONDS)))
+        .is_err()
+    {
+        return;
+    }
+    let mut rest = [0; CLOSING_BYTES];
+    for _ in 0..CLOSING_READS {
+        match stream.read(&mut rest) {
+            Ok(0) => return,
+            Ok(_) => {}
+            Err(error) => {
+                if error.kind() != ErrorKind::Interrupted {
+                    return;
+                }
+            }
+        }
+    }
+}
+
 // Reads, and tries again after an interruption.
 fn read_some<S: Read>(stream: &mut S, buf: &mut [u8]) -> Result<usize, Failed>
     ensures bound { ReadsAtMost result buf.new }
@@ -147,19 +213,19 @@ impl<R: Net + Drop> Link for TcpLink<R> {
         self.stream = None;
         self.bind()?;
         let connected = match &self.listener {
-            Some(listener) => match listener.accept() {
-                Ok((stream, _)) => Some(stream),
-                Err(_) => None,
-            },
+            Some(listener) => accepted(listener),
             None => match TcpStream::connect(&self.rt, self.address.as_str()) {
                 Ok(stream) => Some(stream),
                 Err(_) => None,
             },
         };
-        if connected.is_none() {
+        let Some(stream) = connected else {
+            return self.port_fault();
+        };
+        if !is_limited(&stream) {
             return self.port_fault();
         }
-        self.stream = connected;
+        self.stream = Some(stream);
         self.opened = true;
         Ok(true)
     }
@@ -185,6 +251,9 @@ impl<R: Net + Drop> Link for TcpLink<R> {
     }
 
     fn close(&mut self) {
+        if let Some(stream) = &mut self.stream {
+            end(stream);
+        }
         self.stream = None;
     }
 }

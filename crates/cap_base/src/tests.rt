@@ -1,82 +1,8 @@
 use crate::{
-    Account, Amount, Clock, Code6, FixedClock, Ident, MemSink, MemSource, Money, PutError, Sink,
-    Source, StdClock, StdSink, StdSource, read_decimal, read_number,
+    Clock, FixedClock, MemSink, MemSource, PutError, Sink, Source, StdClock, StdSink, StdSource,
 };
 use std::alloc::Global;
-use std::fmt::Write;
 use std::test::Fail;
-
-const AMOUNTS: [(&str, Option<u64>); 14] = [
-    ("12.50", Some(1250)),
-    ("12.5", Some(1250)),
-    ("12", Some(1200)),
-    ("0012.05", Some(1205)),
-    ("0.01", Some(1)),
-    ("9999999999.99", Some(999_999_999_999)),
-    ("0.00", None),
-    ("0", None),
-    ("12.", None),
-    (".50", None),
-    ("12.505", None),
-    ("10000000000", None),
-    ("1,5", None),
-    ("", None),
-];
-
-const NUMBERS: [(&str, Option<u64>); 6] = [
-    ("0", Some(0)),
-    ("0005", Some(5)),
-    ("9999999999", Some(9_999_999_999)),
-    ("00000000001", None),
-    ("", None),
-    ("1a", None),
-];
-
-#[test]
-fn spellings(rt: HostRuntime) -> Result<(), Fail> {
-    for (text, value) in AMOUNTS {
-        let read = Amount::read(text.as_bytes()).map(|a| a.hundredths());
-        assert!(rt; read == value, "at {text}");
-    }
-    for (text, value) in NUMBERS {
-        assert!(rt; read_number(text.as_bytes(), 10) == value, "at {text}");
-    }
-    assert!(rt; read_decimal(b"99999999999999999.99", 17) == Some(9_999_999_999_999_999_999));
-    assert!(rt;
-        Ident::read(b"T-1./x").is_some()
-            && Ident::read(b"").is_none()
-            && Ident::read(b"T 1").is_none()
-    );
-    assert!(rt; Ident::read(&[b'a'; 35]).is_some() && Ident::read(&[b'a'; 36]).is_none());
-    assert!(rt;
-        Account::read(b"4000001234567899").is_some() && Account::read(b"1234567").is_none()
-    );
-    assert!(rt;
-        Code6::read(b"OFFLIN") == Some(Code6::offline()) && Code6::read(b"offlin").is_none()
-    );
-    Ok(())
-}
-
-#[test]
-fn written(rt: HostRuntime) -> Result<(), Fail> {
-    for (hundredths, text) in [
-        (1, "0.01"),
-        (1250, "12.50"),
-        (999_999_999_999, "9999999999.99"),
-    ] {
-        let mut out = [0u8; 13];
-        if let Some(amount) = Amount::new(hundredths) {
-            let len = amount.write(&mut out);
-            assert!(rt; len <= 13 && &out[..len] == text.as_bytes(), "at {text}");
-        } else {
-            assert!(rt; false, "at {text}");
-        }
-        let mut printed = String::new(rt.alloc());
-        write!(printed, "{}", Money { hundredths })?;
-        assert!(rt; printed.as_str() == text, "at {text}");
-    }
-    Ok(())
-}
 
 #[test]
 fn outside(rt: HostRuntime) -> Result<(), Fail> {

@@ -12,8 +12,6 @@ mod leaf;
 mod moment;
 mod schema;
 mod spelling;
-#[cfg(test)]
-mod tests;
 mod tree;
 mod writing;
 mod zone;

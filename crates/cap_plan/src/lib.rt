@@ -3,8 +3,6 @@
 
 mod moment;
 mod planned;
-#[cfg(test)]
-mod tests;
 
 pub use moment::moment_of;
 pub use planned::{due, next_due};

@@ -15,8 +15,6 @@ mod reading;
 mod reason;
 mod rows;
 mod skipping;
-#[cfg(test)]
-mod tests;
 mod write;
 
 pub use document::read_document;

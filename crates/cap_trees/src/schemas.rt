@@ -378,26 +378,3 @@ pub fn schemas_hold() -> bool
 {
     true
 }
-
-#[cfg(test)]
-mod tests {
-    use super::*;
-
-    #[test]
-    fn each_message_has_one_element(rt: HostRuntime) {
-        assert!(rt; schemas_hold());
-        for (kind, tag) in [
-            (Kind::Caaa001, "AccptrAuthstnReq"),
-            (Kind::Caaa011, "AccptrBtchTrf"),
-            (Kind::Caaa015, "AccptrRjctn"),
-            (Kind::Catm003, "AccptrCfgtnUpd"),
-        ] {
-            let nodes = schema_of(kind);
-            assert_eq!(rt; nodes.len(), 1);
-            assert_eq!(rt; nodes[0].tag, tag);
-            let inside = nodes[0].shape.table();
-            assert_eq!(rt; inside.len(), 2);
-            assert_eq!(rt; inside[0].tag, "Hdr");
-        }
-    }
-}

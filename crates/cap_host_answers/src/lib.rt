@@ -16,6 +16,3 @@ pub use plain::{
 };
 pub use request::{cancel_answer, decide};
 pub use status::{given, plan_setup};
-
-#[cfg(test)]
-mod tests;

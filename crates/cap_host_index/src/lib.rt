@@ -4,6 +4,3 @@
 mod index;
 
 pub use index::LogIndex;
-
-#[cfg(test)]
-mod tests;

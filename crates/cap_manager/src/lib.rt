@@ -6,6 +6,3 @@ mod reply;
 
 pub use answer::answer_status;
 pub use reply::{ManagerReply, PlanSetup};
-
-#[cfg(test)]
-mod tests;

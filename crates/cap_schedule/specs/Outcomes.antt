@@ -1,5 +1,6 @@
 -- The text of what became of a line.
 use Rattle.std.specs.Prelude.{ℕ, List, [], ◌∷◌, ◌++◌, Option, Some, None, codes}
+use Rattle.std.specs.Borrow.{Bor}
 use Rattle.std.specs.Fmt.{decimal}
 use Rattle.cap_base.specs.declared.codes.Reason.{Reason}
 use Rattle.cap_base.specs.declared.codes.Reason.TheVariants.{Unpr, Imsg, Pars, Secu, Intp, Rcpp, Dpmg, Vers, Msgt}
@@ -38,7 +39,7 @@ abbrev pub spaced_reason : Option Reason → List ℕ
 spaced_reason None = []
 spaced_reason (Some reason) = codes " " ++ reason_text reason
 
-abbrev pub spaced_letters : Option (Ref (List ℕ)) → List ℕ
+abbrev pub spaced_letters : Option (Bor (List ℕ)) → List ℕ
 spaced_letters None = []
 spaced_letters (Some letters) = codes " " ++ letters.now
 

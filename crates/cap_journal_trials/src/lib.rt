@@ -1,4 +1,4 @@
-//! Journals tried out: a small record type, an end over any journal, and tables of what a power cut leaves.
+//! Journals tried out: a small record type, and an end over any journal.
 #![tactic(auto)]
 
 mod ledger;

@@ -1,11 +1,12 @@
 -- From every world of every run there is a way on after which nothing waits.
-use Rattle.std.proofs.Common.{◌≡◌, ℕ, zero, suc, ◌+◌, ◌*◌, ◌<◌, Bool, true, false, List, [], ◌∷◌, ◌++◌, length, take, drop, Some, sym, ◌∙◌, ap, subst, append_assoc, append-nil, length-append, arith, set, refl, not, eq-eqb, leb-true, ltb-true, lit≤}
+use Rattle.std.proofs.Common.{◌≡◌, ℕ, zero, suc, ◌+◌, ◌*◌, ◌<◌, Bool, true, false, List, [], ◌∷◌, ◌++◌, length, take, drop, Option, Some, sym, ◌∙◌, ap, subst, append_assoc, append-nil, length-append, arith, set, refl, not, eq-eqb, leb-true, ltb-true, lit≤}
 use Rattle.std.specs.Prelude.{if◌then◌else◌, slice_get, nat_le, nat_lt, bytes_eq, ◌==◌}
 use Rattle.std.specs.List.{AllByRecursion}
 use Rattle.std.proofs.lemmas.Bool.{cond_both, cond-true, cond-false, and_from, false≢true}
 use Rattle.std.proofs.lemmas.Option.{same_Some, none-some}
 use Rattle.cap_base.specs.declared.item.Item.{Item}
 use Rattle.cap_base.specs.declared.item.Item.TheVariants.{Sale, Void, Cancel, Close}
+use Rattle.cap_base.specs.declared.codes.Response.TheVariants.{Appr}
 use Rattle.cap_leaf.specs.Date.{DateParts}
 use Rattle.cap_msgs.specs.declared.message.Body.{Body}
 use Rattle.cap_msgs.specs.declared.message.Message.{Message}
@@ -120,13 +121,13 @@ acknowledgement_taken entries ack good awaited within =
 approval_taken : (entries : List TermEntry) (item : Item) → queue_head entries ≡ Some item → acked entries < length (items entries)
     → (take_reply entries (acked entries + 1) (reply_of (approval_of item))).added ≡ Acked (acked entries + 1) ∷ []
 approval_taken entries (Sale n amount account code) head within =
-    acknowledgement_taken entries (Of_end _) refl (and_from _ _ (eq-eqb (acked entries + 1) (acked entries + 1) refl) (rw head refl)) within
+    acknowledgement_taken entries (Of_end Appr) refl (and_from _ _ (eq-eqb (acked entries + 1) (acked entries + 1) refl) (rw head refl)) within
 approval_taken entries (Void n) head within =
-    acknowledgement_taken entries (Of_end _) refl (and_from _ _ (eq-eqb (acked entries + 1) (acked entries + 1) refl) (rw head refl)) within
+    acknowledgement_taken entries (Of_end Appr) refl (and_from _ _ (eq-eqb (acked entries + 1) (acked entries + 1) refl) (rw head refl)) within
 approval_taken entries (Cancel n amount) head within =
-    acknowledgement_taken entries (Of_cancel _) refl (and_from _ _ (eq-eqb (acked entries + 1) (acked entries + 1) refl) (rw head refl)) within
+    acknowledgement_taken entries (Of_cancel Appr) refl (and_from _ _ (eq-eqb (acked entries + 1) (acked entries + 1) refl) (rw head refl)) within
 approval_taken entries (Close p sums) head within =
-    acknowledgement_taken entries (Of_close _ p sums) refl (and_from _ _ (eq-eqb (acked entries + 1) (acked entries + 1) refl) (rw head (eq-eqb p p refl))) within
+    acknowledgement_taken entries (Of_close Appr p sums) refl (and_from _ _ (eq-eqb (acked entries + 1) (acked entries + 1) refl) (rw head (eq-eqb p p refl))) within
 
 advice_reports : (item : Item) → report_of (advice_of item) ≡ Advice item
 advice_reports (Sale n amount account code) = refl

@@ -12,3 +12,4 @@ pub mod LegalRuns
 pub mod Merged
 pub mod MergedBytes
 pub mod Worked
+pub mod Settling

@@ -226,3 +226,9 @@ named_message host all w match n entries setup_is terminal s which message at se
       to = rw (setup_is, to) (names_same host.host);
       from = rw setup_is (place_from_is 0 terminal host.terminals message.header.from (distinct_names host match.host_rule) there ∙ ap Some (let e : 0 + terminal ≡ terminal = omega arith in e));
     }
+
+-- a terminal's host is the host of the world
+pub own_host : (host : HostSettings) (all : List TerminalSettings) (w : World) → SetUpsMatch host all → NamingWorld host all w → (place : ℕ) (s : TerminalState) → slice_get w.terminals place ≡ Some s → (term_setup_of s.settled).host ≡ host.host
+own_host host all w match n place s at =
+    let t = n.terminals place s at in
+    ap (λ (l : List TermEntry). (term_setup_of l).host) t.first_is ∙ all_at (λ (x : TerminalSettings). x.host ≡ host.host) all place t.settings t.there match.hosts

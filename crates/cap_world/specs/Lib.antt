@@ -7,3 +7,4 @@ pub mod LegalJournals
 pub mod Work
 pub mod Node
 pub mod Worked
+pub mod Settled

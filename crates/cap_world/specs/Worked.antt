@@ -10,7 +10,7 @@ use Rattle.cap_entries.specs.Acked.{acked}
 use Rattle.cap_entries.specs.Log.{log}
 use Rattle.cap_terminal_answers.specs.Does.{Leave}
 use Rattle.cap_terminal_answers.specs.Sends.{Head}
-use Rattle.cap_world.specs.World.{TerminalState, World, Begins, Offline, Gives_up, Sends_message, Takes_answer, Acts, Interrupted, Restart, Answers, Happening, At_terminal, At_host, first, Run}
+use Rattle.cap_world.specs.World.{TerminalState, World, Begins, Offline, Gives_up, Closes, Sends_message, Takes_answer, Acts, Interrupted, Restart, Answers, Happening, At_terminal, At_host, first, Run}
 use Rattle.cap_entries.specs.SetUps.{SetUpsMatch}
 
 abbrev pub small_start : DateParts
@@ -45,6 +45,14 @@ interrupted_sale =
     At_terminal 0 (Acts (Begins 1250 an_account)) ∷ At_terminal 0 (Interrupted (Offline 1)) ∷ At_terminal 0 (Restart 0)
     ∷ At_terminal 0 (Acts (Gives_up 1)) ∷ []
 
+-- the answer of a sale is lost, the power goes at both ends within what they do, both are opened again with nothing of it, and the sale is sent, accepted and acknowledged
+unfoldable pub settled_sale : List Happening
+settled_sale =
+    At_terminal 0 (Acts (Begins 1250 an_account)) ∷ At_terminal 0 (Acts (Offline 1)) ∷ At_terminal 0 (Acts (Sends_message (Head 0) 1700000005))
+    ∷ At_host (Acts (Answers 0 0 1700000006)) ∷ At_terminal 0 (Interrupted Closes) ∷ At_host (Interrupted (Answers 0 0 1700000006))
+    ∷ At_host (Restart 0) ∷ At_terminal 0 (Restart 0)
+    ∷ At_terminal 0 (Acts (Sends_message (Head 0) 1700000005)) ∷ At_host (Acts (Answers 0 1 1700000006)) ∷ At_terminal 0 (Acts (Takes_answer 1 Leave)) ∷ []
+
 -- the set-ups match, and these happenings are a run that ends with these counts
 pub record SmallRun (happenings : List Happening) (counts : ℕ × ℕ × ℕ × ℕ) : Type 0 where
   pub match : SetUpsMatch small_host (small_terminal ∷ [])
@@ -58,3 +66,6 @@ FirstSaleIsARun = (sent answered : DateParts) → IsMoment 1700000005 sent → I
 
 abbrev pub InterruptedSaleIsARun : Type 0
 InterruptedSaleIsARun = SmallRun interrupted_sale (1, 0, 0, 0)
+
+abbrev pub SettledSaleIsARun : Type 0
+SettledSaleIsARun = (sent answered : DateParts) → IsMoment 1700000005 sent → IsMoment 1700000006 answered → SmallRun settled_sale (1, 1, 1, 1)

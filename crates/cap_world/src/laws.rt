@@ -8,7 +8,8 @@ ghost use Rattle.cap_world.specs.SetsInForce.{EverySetIsPublished, NoSetGoesBack
 ghost use Rattle.cap_world.specs.LegalJournals.{EveryTerminalJournalIsLegal, EveryHostJournalIsLegal};
 ghost use Rattle.cap_world.specs.Work.{MergedWorkIsARun};
 ghost use Rattle.cap_world.specs.Node.{MergedBytesAreARun};
-ghost use Rattle.cap_world.specs.Worked.{FirstSaleIsARun, InterruptedSaleIsARun};
+ghost use Rattle.cap_world.specs.Settled.{EveryRunCanSettle};
+ghost use Rattle.cap_world.specs.Worked.{FirstSaleIsARun, InterruptedSaleIsARun, SettledSaleIsARun};
 
 /// Whatever was sold, cancelled, closed, sent, lost, repeated and reordered, and wherever the power went at either end, also within a
 /// write: the host's log of each terminal is a front of that terminal's items, none twice; it has what the terminal had acknowledged;
@@ -16,6 +17,14 @@ ghost use Rattle.cap_world.specs.Worked.{FirstSaleIsARun, InterruptedSaleIsARun}
 /// totals at both ends.
 pub fn every_run_agrees()
     ensures { EveryRunAgrees }
+{}
+
+/// No run is a dead end: from each of its worlds, whatever stands of what was tried, one opening of each end that is off and three
+/// happenings an item that waits (it is sent, it arrives, its answer arrives) lead to a world in which every end is on and nothing
+/// waits. Each terminal's items are then those that it had when it was opened, the host has captured exactly its completed, uncancelled
+/// sales, and its periods have the same totals at both ends.
+pub fn every_run_can_settle()
+    ensures { EveryRunCanSettle }
 {}
 
 /// The host approves each item and batch that a terminal sent, whenever it arrives.
@@ -72,4 +81,9 @@ pub fn first_sale_is_a_run()
 /// A sale whose completion is cut within the write, and which is then given up, is a run: one item, and nothing at the host.
 pub fn interrupted_sale_is_a_run()
     ensures { InterruptedSaleIsARun }
+{}
+
+/// A sale whose answer is lost, a power cut at both ends, and the way on from there are a run: one item, acknowledged and captured once.
+pub fn settled_sale_is_a_run()
+    ensures { SettledSaleIsARun }
 {}

@@ -11,7 +11,7 @@ import sys
 import time
 
 TOP = os.path.dirname(os.path.dirname(os.path.abspath(__file__)))
-PROGRAM = os.path.join(TOP, "crates", "cap_top", "out", "cap_top")
+PROGRAM = os.path.join(TOP, "crates", "cap", "out", "cap")
 TERMINALS = 16
 LINES = 100_000
 

@@ -1,5 +1,5 @@
 // Journals over a disk in memory.
-ghost use Rattle.std.specs.Prelude.{IsTrue};
+ghost use Rattle.std.specs.Prelude.{◌≡◌, false, IsTrue, IfSome};
 
 use cap_disk::{Disk, MemoryDisk};
 use cap_journal::{DiskJournal, Journal, Record};
@@ -9,7 +9,9 @@ use std::alloc::Global;
 pub(crate) type Trial<E> = DiskJournal<E, MemoryDisk>;
 
 /// A new journal.
-pub(crate) fn new_journal<E: Record>(alloc: Global) -> Option<Trial<E>> {
+pub(crate) fn new_journal<E: Record>(alloc: Global) -> Option<Trial<E>>
+    ensures { IfSome result (λ journal. ⟦<DiskJournal<E, MemoryDisk> as Journal<E>>⟧.has_failed journal ≡ false) }
+{
     let disk = MemoryDisk::new(alloc).ok()?;
     match Trial::init(alloc, disk) {
         Ok(journal) => Some(journal),

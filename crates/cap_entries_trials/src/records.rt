@@ -1,5 +1,5 @@
 // The records of entries.
-ghost use Rattle.std.specs.Prelude.{IsTrue};
+ghost use Rattle.std.specs.Prelude.{IsTrue, IfOk, IfSome};
 
 use crate::entries::entry;
 use crate::words::{bytes_in, cut, hex, text};
@@ -31,9 +31,16 @@ pub(crate) fn record(alloc: Global, word: &str) -> Result<String, Memory> {
     }
 }
 
+// The value of the record that bytes begin with, and its number of bytes. What reads has a record.
+fn value_in<E: Record>(alloc: Global, bytes: &[u8]) -> Result<Option<(E, usize)>, Memory>
+    ensures fits { IfOk result (λ found. IfSome found (λ value. IsTrue (E.fits value.0))) }
+{
+    E::read(alloc, bytes)
+}
+
 // Whether the record of the value that bytes begin with is these bytes, and how many there are of them.
 fn again<E: Record + Drop>(alloc: Global, bytes: &[u8]) -> Result<String, Memory> {
-    match E::read(alloc, bytes)? {
+    match value_in::<E>(alloc, bytes)? {
         Some((value, size)) => {
             let record = record_of(alloc, &value)?;
             let is_same = bytes.starts_with(&record);

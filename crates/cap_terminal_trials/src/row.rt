@@ -10,8 +10,8 @@ pub(crate) fn row_of(line: &str) -> Row<'_> {
     let mut parts = line.split_whitespace();
     let verb = parts.next().unwrap_or("");
     let mut words = [""; 6];
-    for word in words.iter_mut() {
-        *word = parts.next().unwrap_or("");
+    for place in 0..6 {
+        words[place] = parts.next().unwrap_or("");
     }
     Row { verb, words }
 }

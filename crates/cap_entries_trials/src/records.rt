@@ -33,7 +33,7 @@ pub(crate) fn record(alloc: Global, word: &str) -> Result<String, Memory> {
 
 // The value of the record that bytes begin with, and its number of bytes. What reads has a record.
 fn value_in<E: Record>(alloc: Global, bytes: &[u8]) -> Result<Option<(E, usize)>, Memory>
-    ensures fits { IfOk result (λ found. IfSome found (λ value. IsTrue (E.fits value.0))) }
+    ensures { IfOk result (λ found. IfSome found (λ value. IsTrue (E.fits value.0))) }
 {
     E::read(alloc, bytes)
 }

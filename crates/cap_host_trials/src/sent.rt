@@ -1,6 +1,7 @@
 // What a terminal sent in a long run, and the documents that report it.
 use crate::documents::document;
 use crate::fault::Fault;
+use crate::row::row_of;
 use cap_base::{Account, Amount, Code6, Item, Totals};
 use std::alloc::Global;
 use std::string::String;
@@ -148,10 +149,7 @@ pub(crate) fn next_document(
 ) -> Result<String, Fault> {
     let turn = (sent.items.len() as u64).saturating_add(1);
     let body = body_of(alloc, sent, turn, i)?;
-    let exchange = format!(in alloc; "{turn}")?;
     let [number, element, function] = kind_of(turn);
-    document(
-        alloc,
-        [name, "ACQ1", number, element, function, &exchange, &body],
-    )
+    let row = format!(in alloc; "take {name} ACQ1 {number} {element} {function} {turn} {body}")?;
+    document(alloc, row_of(&row).words)
 }

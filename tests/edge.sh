@@ -106,7 +106,7 @@ same 'file after a failed sync' 'Ok abcd' "$(last 'file at broken' 'file read 0 
 printf 'tcp close\n' |
     strace -o trace -e trace=setsockopt,shutdown "$program" >/dev/null
 has 'no delay' 'TCP_NODELAY, \[1\]' trace
-has 'idle limit' 'SO_RCVTIMEO.*tv_sec=30' trace
+has 'idle limit' 'SO_RCVTIMEO(_OLD)?, ("\\36\\0|\{tv_sec=30)' trace
 has 'sending side shut' 'shutdown\([0-9]+, SHUT_WR\) += 0' trace
 
 exit "$failed"

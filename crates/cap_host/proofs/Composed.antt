@@ -3,8 +3,8 @@ use Rattle.std.proofs.Common.{◌≡◌, List, [], Option, Some, None, ap}
 use Rattle.std.specs.Prelude.{Result, Ok, Err, IsErrAnd}
 use Rattle.cap_journal.specs.declared.journal.Journal.{Ghosts}
 use Rattle.cap_entries.specs.declared.host.HostEntry.{HostEntry}
-use Rattle.cap_host_ledger.specs.declared.fault.HostFault.{HostFault}
-use Rattle.cap_host_ledger.specs.declared.fault.HostFault.TheVariants.{Memory}
+use Rattle.cap_answering.specs.declared.fault.HostFault.{HostFault}
+use Rattle.cap_answering.specs.declared.fault.HostFault.TheVariants.{Memory}
 use Rattle.cap_host_ledger.specs.Ledger.{OnlyReads}
 use Rattle.cap_host_ledger.specs.Ledger as ledger
 use Rattle.cap_host_ledger.specs.Laws.{reads_then_reads, reads_then_adds, reads_give, reads_fail, reads_lack, fails_adds, adds_none}

@@ -1,7 +1,7 @@
 -- Each captured sale makes a line.
 use Rattle.std.proofs.Common.{◌≡◌, ℕ, ◌≤◌, ◌<◌, Bool, true, false, not, List, length, Option, Some, None, sym, ◌∙◌, ap, subst, ⊎_elim, get_or, arith, ltb-true}
 use Rattle.std.specs.Prelude.{◌↔◌, ◌⊎◌, Result, Ok, Err, IfOk, nat_lt, slice_get}
-use Rattle.cap_host_ledger.specs.declared.fault.HostFault.{HostFault}
+use Rattle.cap_answering.specs.declared.fault.HostFault.{HostFault}
 use Rattle.cap_host.specs.declared.capture.Captured.{Captured}
 use Rattle.std.specs.List.{list_any}
 use Rattle.std.proofs.lemmas.Bool.{false≢true, cases_Bool}

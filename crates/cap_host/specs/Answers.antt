@@ -3,9 +3,9 @@ use Rattle.std.specs.Prelude.{ℕ, ◌+◌, ◌≤◌, List, Result, IfOk}
 use Rattle.cap_journal.specs.declared.journal.Journal.{Ghosts}
 use Rattle.cap_msgs.specs.Received.{Received, Read, Unread}
 use Rattle.cap_entries.specs.declared.host.HostEntry.{HostEntry}
-use Rattle.cap_host_ledger.specs.declared.fault.HostFault.{HostFault}
+use Rattle.cap_answering.specs.declared.fault.HostFault.{HostFault}
 use Rattle.cap_host_answers.specs.Received.{answer_received}
-use Rattle.cap_host.specs.declared.reply.Reply.{Reply}
+use Rattle.cap_answering.specs.declared.reply.Reply.{Reply}
 use Rattle.cap_host.specs.declared.host.Host.{Host}
 use Rattle.cap_host.specs.Reply.{IsReply}
 use Rattle.cap_host.specs.Host.{entries_of, fetched_of, fault_of, readings, Adds}

@@ -4,8 +4,8 @@ use Rattle.cap_base.specs.Causes.{Rose}
 use Rattle.cap_entries.specs.declared.host.HostEntry.{HostEntry}
 use Rattle.cap_entries.specs.HostAllowed.{all_host_allowed}
 use Rattle.cap_entries.specs.FirstNotAllowed.{first_host_not_allowed}
-use Rattle.cap_host_ledger.specs.declared.fault.HostFault.{HostFault}
-use Rattle.cap_host_ledger.specs.declared.fault.HostFault.TheVariants as fault
+use Rattle.cap_answering.specs.declared.fault.HostFault.{HostFault}
+use Rattle.cap_answering.specs.declared.fault.HostFault.TheVariants as fault
 use Rattle.cap_host.specs.Tables.{TablesTie}
 use Rattle.cap_host.specs.Ties.{HostTies}
 use Rattle.cap_host.specs.declared.opening.HostOpenCause.{HostOpenCause}

@@ -14,8 +14,8 @@ use Rattle.cap_msgs.specs.Reads.{Reads}
 use Rattle.cap_entries.specs.declared.host.HostEntry.{HostEntry}
 use Rattle.cap_host_answers.specs.Answer.{approved_if}
 use Rattle.cap_host_answers.specs.Received.{reply_to}
-use Rattle.cap_host.specs.declared.reply.Reply.{Reply}
-use Rattle.cap_host.specs.declared.reply.Reply.TheVariants.{Bytes, Silent}
+use Rattle.cap_answering.specs.declared.reply.Reply.{Reply}
+use Rattle.cap_answering.specs.declared.reply.Reply.TheVariants.{Bytes, Silent}
 
 -- the answer of a closing, by the host's totals of its period
 abbrev pub reconciled_with : ℕ → Totals → Totals → Body

@@ -4,7 +4,7 @@ ghost use Rattle.cap_entries.specs.declared.host.HostEntry.{HostEntry};
 ghost use Rattle.std.specs.List.{list_all};
 ghost use Rattle.cap_entries.specs.declared.host.HostEntry.TheVariants.{Took};
 ghost use Rattle.cap_entries.specs.HostRecord.{item_fits};
-ghost use Rattle.cap_host_ledger.specs.declared.fault.HostFault.TheVariants.{Memory, Failed as Has_failed};
+ghost use Rattle.cap_answering.specs.declared.fault.HostFault.TheVariants.{Memory, Failed as Has_failed};
 ghost use Rattle.cap_host.specs.Decision.{MayTake};
 ghost use Rattle.cap_host.specs.Host.{entries_of, fetched_of, fault_of, has_failed, spare_of, Adds, Reads};
 
@@ -13,7 +13,7 @@ use crate::spelt::are_spelt;
 use cap_base::Item;
 use cap_entries::{HostEntry, batches_are_groups, records_are_bounded};
 use cap_host_answers::took_all;
-use cap_host_ledger::HostFault;
+use cap_answering::HostFault;
 use cap_journal::Journal;
 
 impl<J: Journal<HostEntry> + Drop> Host<J> {

@@ -16,7 +16,7 @@ use cap_base::{Item, Response, Totals};
 use cap_batch_msgs::BatchBody;
 use cap_entries::HostEntry;
 use cap_host_answers::{approved, differs, expects, replies, same_totals};
-use cap_host_ledger::HostFault;
+use cap_answering::HostFault;
 use cap_journal::Journal;
 use cap_msgs::Body;
 use cap_sale_msgs::SaleBody;

@@ -3,7 +3,7 @@ ghost use Rattle.std.specs.Prelude.{◌≡◌, ◌<◌, ◌≤◌, ◌+◌, fals
 ghost use Rattle.cap_msgs.specs.Received.{Received, Read, Unread};
 ghost use Rattle.cap_msgs.specs.Reads.{Reads as Reads_as};
 ghost use Rattle.cap_entries.specs.declared.host.HostEntry.TheVariants.{Took};
-ghost use Rattle.cap_host_ledger.specs.declared.fault.HostFault.TheVariants.{Memory};
+ghost use Rattle.cap_answering.specs.declared.fault.HostFault.TheVariants.{Memory};
 ghost use Rattle.cap_host_answers.specs.Received.{number_of, name_or, sender_of, answer_received};
 ghost use Rattle.cap_host.specs.Decision.{decided, IsSound, MayTake};
 ghost use Rattle.cap_host.specs.Reply.{IsReply};
@@ -12,11 +12,10 @@ ghost use Rattle.cap_host.specs.Answers.{Answers};
 
 use crate::decision::Decision;
 use crate::host::Host;
-use crate::reply::Reply;
 use cap_base::{Ident, Item};
 use cap_entries::HostEntry;
 use cap_host_answers::answer_fault;
-use cap_host_ledger::HostFault;
+use cap_answering::{HostFault, Reply};
 use cap_journal::Journal;
 use cap_leaf::Fault;
 use cap_msgs::{Body, DecodeError, Message, decode};

@@ -15,7 +15,7 @@ use cap_base::{Item, Response};
 use cap_batch_msgs::BatchBody;
 use cap_entries::HostEntry;
 use cap_host_answers::{approved, differs, expects, replies};
-use cap_host_ledger::HostFault;
+use cap_answering::HostFault;
 use cap_journal::Journal;
 use cap_msgs::Body;
 

@@ -8,7 +8,7 @@ ghost use Rattle.cap_host.specs.Host.{entries_of, fetched_of, fault_of, Reads};
 use crate::host::Host;
 use cap_base::{Account, Amount, Code6, Item};
 use cap_entries::HostEntry;
-use cap_host_ledger::HostFault;
+use cap_answering::HostFault;
 use cap_journal::Journal;
 
 /// A captured sale.

@@ -5,7 +5,7 @@ ghost use Rattle.cap_msgs.specs.Received.{Read};
 ghost use Rattle.cap_entries.specs.declared.host.HostEntry.{HostEntry};
 ghost use Rattle.cap_entries.specs.Log.{log, published, setup_of};
 ghost use Rattle.cap_manager.specs.Manager.{answer_status};
-ghost use Rattle.cap_host_ledger.specs.declared.fault.HostFault.TheVariants.{Memory};
+ghost use Rattle.cap_answering.specs.declared.fault.HostFault.TheVariants.{Memory};
 ghost use Rattle.cap_host_answers.specs.Answer.{answer_cancel_request, answer_data, answer_of};
 ghost use Rattle.cap_host_answers.specs.Received.{answer_received, answer_from, place_of};
 ghost use Rattle.cap_host.specs.Decision.{decided, IsSound};
@@ -20,7 +20,7 @@ use cap_host_answers::{
     cancel_answer, cancellation, decide, given, is_of_host, item_of, needs_no_answer, plan_setup,
     quiet, rejected, tell_state,
 };
-use cap_host_ledger::HostFault;
+use cap_answering::HostFault;
 use cap_journal::Journal;
 use cap_manager::answer_status;
 use cap_mgmt_msgs::MgmtBody;

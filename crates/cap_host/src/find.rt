@@ -15,7 +15,7 @@ use crate::host::Host;
 use cap_base::Item;
 use cap_entries::HostEntry;
 use cap_host_answers::same;
-use cap_host_ledger::HostFault;
+use cap_answering::HostFault;
 use cap_journal::Journal;
 
 // Whether an item is a sale of this amount.

@@ -14,7 +14,7 @@ use crate::host::Host;
 use cap_base::Item;
 use cap_entries::HostEntry;
 use cap_host_answers::{count_closes, has_cancel, has_end, has_sale, is_sale_number};
-use cap_host_ledger::HostFault;
+use cap_answering::HostFault;
 use cap_journal::Journal;
 
 impl<J: Journal<HostEntry> + Drop> Host<J> {

@@ -13,15 +13,13 @@ mod fitting;
 mod host;
 mod opening;
 mod publishing;
-mod reply;
 mod spelt;
 mod tables;
 mod terminal_name;
 mod writing;
 
-pub use cap_host_ledger::HostFault;
+pub use cap_answering::{ByteText, HostFault, Reply};
 pub use capture::Captured;
 pub use host::Host;
 pub use opening::{HostOpenCause, HostOpenError};
 pub use publishing::PublishFault;
-pub use reply::{ByteText, Reply};

@@ -10,8 +10,8 @@ use Rattle.cap_journal.specs.declared.journal.JournalError.TheVariants.{Disk as 
 use Rattle.cap_journal.specs.File.{HasEither}
 use Rattle.cap_journal.specs.Seen.{IsTrying}
 use Rattle.cap_journal.specs.Told.{IsCountedBy, HasAppendCause}
-use Rattle.cap_host_ledger.specs.declared.fault.HostFault.{HostFault}
-use Rattle.cap_host_ledger.specs.declared.fault.HostFault.TheVariants.{Disk, Failed, Memory}
+use Rattle.cap_answering.specs.declared.fault.HostFault.{HostFault}
+use Rattle.cap_answering.specs.declared.fault.HostFault.TheVariants.{Disk, Failed, Memory}
 use Rattle.cap_host_ledger.specs.declared.ledger.Ledger.{Ledger}
 use Rattle.cap_host_ledger.specs.Ledger.{calls_for, Adds}
 

@@ -9,8 +9,8 @@ use Rattle.cap_journal.specs.declared.journal.Journal.{Ghosts}
 use Rattle.cap_journal.specs.File.{HasEither}
 use Rattle.cap_journal.specs.Seen.{CountsTrying, IsTrying}
 use Rattle.cap_journal.specs.Told.{IsQuiet}
-use Rattle.cap_host_ledger.specs.declared.fault.HostFault.{HostFault}
-use Rattle.cap_host_ledger.specs.declared.fault.HostFault.TheVariants.{Disk, Failed, Memory}
+use Rattle.cap_answering.specs.declared.fault.HostFault.{HostFault}
+use Rattle.cap_answering.specs.declared.fault.HostFault.TheVariants.{Disk, Failed, Memory}
 use Rattle.cap_host_ledger.specs.declared.ledger.Ledger.{Ledger}
 use Rattle.cap_host_ledger.specs.Ledger.{calls_for, Stays, OnlyReads, Adds}
 

@@ -10,8 +10,8 @@ use Rattle.cap_journal.specs.File.{HasEither}
 use Rattle.cap_journal.specs.Seen.{EveryImage, EveryImageHas, IsTrying}
 use Rattle.cap_journal.specs.Told.{IsQuiet}
 use Rattle.cap_host_ledger.specs.Front.{HasFront}
-use Rattle.cap_host_ledger.specs.declared.fault.HostFault.{HostFault}
-use Rattle.cap_host_ledger.specs.declared.fault.HostFault.TheVariants.{Disk, Failed, Memory}
+use Rattle.cap_answering.specs.declared.fault.HostFault.{HostFault}
+use Rattle.cap_answering.specs.declared.fault.HostFault.TheVariants.{Disk, Failed, Memory}
 use Rattle.cap_host_ledger.specs.declared.ledger.Ledger.{Ledger}
 
 -- how many device calls add these entries

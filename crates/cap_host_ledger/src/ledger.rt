@@ -3,7 +3,7 @@ ghost use Rattle.std.specs.Coded.{Coded-set, coded_option, coded_list, Π_prop};
 ghost use Rattle.cap_journal.specs.Seen.{EveryImage};
 ghost use Rattle.cap_host_ledger.specs.Front.{HasFront};
 
-use crate::fault::HostFault;
+use cap_answering::HostFault;
 use cap_journal::{Journal, JournalError, Record};
 use std::marker::PhantomData;
 
@@ -20,7 +20,7 @@ pub struct Ledger<E: Record, J: Journal<E> + Drop> {
 impl<E: Record, J: Journal<E> + Drop> Ledger<E, J> {
     ghost use Rattle.std.specs.Prelude.{◌≤◌, ◌<◌, ◌+◌, true, ◌++◌, ◌∷◌, [], length, map, sum, All, OnOk, IfOk, IfErr, slice_get, Ok, Err, Some, List};
     ghost use Rattle.cap_journal.specs.Spare.{Suffices};
-    ghost use Rattle.cap_host_ledger.specs.declared.fault.HostFault.TheVariants.{Disk, Failed, Memory};
+    ghost use Rattle.cap_answering.specs.declared.fault.HostFault.TheVariants.{Disk, Failed, Memory};
     ghost use Rattle.cap_host_ledger.specs.Ledger.{journal_in, has_failed, entries_in, spare_in, fetched_in, is_readable, OnlyReads, Adds};
 
     /// A journal that has not failed.

@@ -7,8 +7,8 @@ use Rattle.cap_journal.specs.declared.journal.Journal.{Ghosts}
 use Rattle.cap_journal.specs.File.{Has}
 use Rattle.cap_entries.specs.declared.host.HostEntry.{HostEntry}
 use Rattle.cap_entries.specs.HostRecord.{host_reading}
-use Rattle.cap_host_ledger.specs.declared.fault.HostFault.{HostFault}
-use Rattle.cap_host_ledger.specs.declared.fault.HostFault.TheVariants.{Disk, Failed}
+use Rattle.cap_answering.specs.declared.fault.HostFault.{HostFault}
+use Rattle.cap_answering.specs.declared.fault.HostFault.TheVariants.{Disk, Failed}
 use Rattle.cap_host.specs.declared.host.Host.{Host}
 use Rattle.cap_host.specs.Host.{entries_of, fault_of, Reads}
 use Rattle.cap_plays.specs.Plays.{no_doubt}

@@ -9,12 +9,12 @@ use Rattle.cap_msgs.specs.Ranges.{IsSpellable}
 use Rattle.cap_msgs.specs.Received.{Received, Read}
 use Rattle.cap_msgs.specs.Reads.{Reads}
 use Rattle.cap_entries.specs.declared.host.HostEntry.{HostEntry}
-use Rattle.cap_host_ledger.specs.declared.fault.HostFault.{HostFault}
-use Rattle.cap_host_ledger.specs.declared.fault.HostFault.TheVariants as H
+use Rattle.cap_answering.specs.declared.fault.HostFault.{HostFault}
+use Rattle.cap_answering.specs.declared.fault.HostFault.TheVariants as H
 use Rattle.cap_host_answers.specs.Received.{answer_received, reply_to}
 use Rattle.cap_host.specs.declared.host.Host.{Host}
-use Rattle.cap_host.specs.declared.reply.Reply.{Reply}
-use Rattle.cap_host.specs.declared.reply.Reply.TheVariants as R
+use Rattle.cap_answering.specs.declared.reply.Reply.{Reply}
+use Rattle.cap_answering.specs.declared.reply.Reply.TheVariants as R
 use Rattle.cap_host.specs.Host.{entries_of, fault_of}
 use Rattle.cap_host.specs.Reply.{IsReply}
 use Rattle.cap_plays.specs.declared.fault.LineFault.{LineFault}

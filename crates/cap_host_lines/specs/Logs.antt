@@ -7,8 +7,8 @@ use Rattle.cap_base.specs.declared.item.Item.{Item}
 use Rattle.cap_base.specs.Captured.{period_totals}
 use Rattle.cap_entries.specs.declared.host.HostEntry.{HostEntry}
 use Rattle.cap_host.specs.declared.host.Host.{Host}
-use Rattle.cap_host_ledger.specs.declared.fault.HostFault.{HostFault}
-use Rattle.cap_host_ledger.specs.declared.fault.HostFault.TheVariants as fault
+use Rattle.cap_answering.specs.declared.fault.HostFault.{HostFault}
+use Rattle.cap_answering.specs.declared.fault.HostFault.TheVariants as fault
 use Rattle.cap_host.specs.Host.{journal_of, entries_of, has_failed}
 use Rattle.cap_world.specs.World.{HostState}
 use Rattle.cap_plays.specs.Report.{host_text, period_text, period_lines}

@@ -2,10 +2,10 @@
 use Rattle.std.specs.Prelude.{◌≡◌, ℕ, Option, Some, None, Result, Ok, Err, IfOk, IfErr, IsSomeAnd}
 use Rattle.cap_host.specs.declared.publishing.PublishFault.{PublishFault}
 use Rattle.cap_host.specs.declared.publishing.PublishFault.TheVariants as P
-use Rattle.cap_host.specs.declared.reply.Reply.{Reply}
-use Rattle.cap_host.specs.declared.reply.Reply.TheVariants as R
-use Rattle.cap_host_ledger.specs.declared.fault.HostFault.{HostFault}
-use Rattle.cap_host_ledger.specs.declared.fault.HostFault.TheVariants as H
+use Rattle.cap_answering.specs.declared.reply.Reply.{Reply}
+use Rattle.cap_answering.specs.declared.reply.Reply.TheVariants as R
+use Rattle.cap_answering.specs.declared.fault.HostFault.{HostFault}
+use Rattle.cap_answering.specs.declared.fault.HostFault.TheVariants as H
 use Rattle.cap_schedule.specs.declared.outcome.Outcome.TheVariants as O
 use Rattle.cap_plays.specs.declared.fault.LineFault.{LineFault}
 use Rattle.cap_plays.specs.declared.fault.LineFault.TheVariants.{Disk, Memory}

@@ -16,7 +16,8 @@ use Rattle.cap_schedule.specs.declared.schedule.Action.{Action}
 use Rattle.cap_schedule.specs.declared.schedule.Action.TheVariants.{AtTerminal, AtHost, Reopen}
 use Rattle.cap_schedule.specs.declared.schedule.Line.{Line}
 use Rattle.cap_schedule.specs.declared.schedule.Schedule.{Schedule}
-use Rattle.cap_world.specs.World.{TerminalState, HostState, Acts, Interrupted, Restart, Interrupted_restart, Happening, At_terminal, At_host, delivered, started}
+use Rattle.cap_answering.specs.Steps.{Acts, Interrupted, Restart, Interrupted_restart}
+use Rattle.cap_world.specs.World.{TerminalState, HostState, Happening, At_terminal, At_host, delivered, started}
 use Rattle.cap_entries.specs.declared.host.HostEntry.TheVariants.{Setup}
 use Rattle.cap_plays.specs.Turns.{Scene, counted_at, Work, Turn, worked, turn_of, HostWork, HostTurn, host_turn_of}
 

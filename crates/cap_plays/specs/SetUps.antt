@@ -18,7 +18,8 @@ use Rattle.cap_host_answers.specs.Received.{place_from, place_of, answer_from, a
 use Rattle.cap_host_answers.specs.Answer.{Answered}
 use Rattle.cap_msgs.specs.Report.{report_of, is_from_host, is_unanswered}
 use Rattle.cap_schedule.specs.declared.schedule.Schedule.{Schedule}
-use Rattle.cap_world.specs.World.{TerminalState, World, TerminalAction, Event, Acts, Interrupted, Restart, Interrupted_restart, TerminalStep, HostAction, delivered, HostStep, Happening, At_terminal, At_host, Step, Run, started}
+use Rattle.cap_answering.specs.Steps.{Event, Acts, Interrupted, Restart, Interrupted_restart}
+use Rattle.cap_world.specs.World.{TerminalState, World, TerminalAction, TerminalStep, HostAction, delivered, HostStep, Happening, At_terminal, At_host, Step, Run, started}
 use Rattle.cap_schedule.specs.Nobodys.{IsParty, IsNobodys}
 use Rattle.cap_plays.specs.Laws.{InRange, first_world}
 

@@ -34,7 +34,8 @@ use Rattle.cap_host_answers.specs.Received.{answer_received, number_of, Replies}
 use Rattle.cap_terminal_answers.specs.Takes.{Taken, is_awaited, take_acknowledgement, take_reply, is_for_us, takes}
 use Rattle.cap_terminal_answers.specs.Does.{Decision, Leave, Complete, Give_up, Decline, Decides}
 use Rattle.cap_terminal_answers.specs.Sends.{Sending, Head, Batch_of, Ask, Ask_cancel, Diagnose, Report_status, Sends}
-use Rattle.cap_world.specs.World.{TerminalState, World, TerminalAction, Begins, Offline, Gives_up, Cancels, Closes, Sends_message, Takes_answer, Hears_foreign, TerminalDoes, Event, Acts, Interrupted, Restart, Interrupted_restart, TerminalStep, HostAction, Answers, Answers_foreign, Publishes, HostDoes, HostStep, Happening, At_terminal, At_host, Step, started, first, Run}
+use Rattle.cap_answering.specs.Steps.{Event, Acts, Interrupted, Restart, Interrupted_restart}
+use Rattle.cap_world.specs.World.{TerminalState, World, TerminalAction, Begins, Offline, Gives_up, Cancels, Closes, Sends_message, Takes_answer, Hears_foreign, TerminalDoes, TerminalStep, HostAction, Answers, Answers_foreign, Publishes, HostDoes, HostStep, Happening, At_terminal, At_host, Step, started, first, Run}
 use Rattle.cap_world.proofs.Named.{all_append, all_at, all_weaker, delivered_cases, set_cases}
 use Rattle.cap_world.proofs.Parties.{RejectedOnly, foreign_is_rejected, rejection_reply}
 use Rattle.cap_world.proofs.Steps.{answered_is, setup_settled}

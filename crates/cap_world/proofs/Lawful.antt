@@ -35,7 +35,8 @@ use Rattle.cap_terminal_answers.specs.declared.handled.Handled.TheVariants.{Auth
 use Rattle.cap_terminal_answers.specs.declared.handled.TermFault.{TermFault}
 use Rattle.cap_terminal_answers.specs.Takes.{Taken, is_awaited, acked_answer, take_acknowledgement, take_reply, is_for_us, takes}
 use Rattle.cap_terminal_answers.specs.Does.{offline_code, Decision, Leave, Complete, Give_up, Decline, Decides}
-use Rattle.cap_world.specs.World.{TerminalState, World, TerminalAction, Begins, Offline, Gives_up, Cancels, Closes, Sends_message, Takes_answer, Hears_foreign, TerminalDoes, Event, Acts, Interrupted, Restart, Interrupted_restart, TerminalStep, HostAction, Answers, Answers_foreign, Publishes, HostDoes, HostStep, Happening, At_terminal, At_host, Step, first, Run, May}
+use Rattle.cap_answering.specs.Steps.{Event, Acts, Interrupted, Restart, Interrupted_restart}
+use Rattle.cap_world.specs.World.{TerminalState, World, TerminalAction, Begins, Offline, Gives_up, Cancels, Closes, Sends_message, Takes_answer, Hears_foreign, TerminalDoes, TerminalStep, HostAction, Answers, Answers_foreign, Publishes, HostDoes, HostStep, Happening, At_terminal, At_host, Step, first, Run, May}
 use Rattle.cap_entries.specs.SetUps.{SetUpsMatch}
 use Rattle.std.specs.Prelude.{Result, Ok}
 use Rattle.cap_world.proofs.Named.{all_append, all_at, delivered_cases, set_cases, started_cases, setup_kept}

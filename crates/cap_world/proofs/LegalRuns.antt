@@ -18,7 +18,8 @@ use Rattle.cap_entries.specs.LogLaws.{log-append}
 use Rattle.cap_entries.specs.AllowedLaws.{all_allowed_front}
 use Rattle.cap_entries.specs.HostAllowedLaws.{all_host_allowed-append, all_host_allowed_front}
 use Rattle.cap_host_answers.specs.Answer.{Answered}
-use Rattle.cap_world.specs.World.{TerminalState, World, Event, Acts, Interrupted, Restart, Interrupted_restart, HostAction, Answers, Answers_foreign, Publishes, HostDoes, delivered, HostStep, Happening, At_terminal, At_host, Step, started, first, Run}
+use Rattle.cap_answering.specs.Steps.{Event, Acts, Interrupted, Restart, Interrupted_restart}
+use Rattle.cap_world.specs.World.{TerminalState, World, HostAction, Answers, Answers_foreign, Publishes, HostDoes, delivered, HostStep, Happening, At_terminal, At_host, Step, started, first, Run}
 use Rattle.cap_world.proofs.HostSound.{answer_sound, log-took}
 use Rattle.cap_world.proofs.Parties.{foreign_is_rejected}
 use Rattle.cap_world.proofs.Steps.{Invariant, step_sound, first_sound, sent_ok, answered_is, setup_settled, front_settled}

@@ -3,7 +3,8 @@ use Rattle.std.proofs.Common.{ℕ, List, [], ◌∷◌, refl}
 use Rattle.cap_msgs.specs.declared.message.Message.{Message}
 use Rattle.cap_entries.specs.declared.terminal.TermEntry.{TermEntry}
 use Rattle.cap_entries.specs.declared.host.HostEntry.{HostEntry}
-use Rattle.cap_world.specs.World.{TerminalState, World, TerminalAction, Takes_answer, TerminalDoes, Event, Acts, Interrupted, Restart, Interrupted_restart, TerminalStep, HostAction, Answers, Answers_foreign, Publishes, HostDoes, HostStep, At_terminal, At_host}
+use Rattle.cap_answering.specs.Steps.{Event, Acts, Interrupted, Restart, Interrupted_restart}
+use Rattle.cap_world.specs.World.{TerminalState, World, TerminalAction, Takes_answer, TerminalDoes, TerminalStep, HostAction, Answers, Answers_foreign, Publishes, HostDoes, HostStep, At_terminal, At_host}
 use Rattle.cap_world.specs.Work.{TerminalWork, Does_own, Takes_message, TerminalWorks, HostWork, Answers_message, Adds_set, Answers_noise, HostWorks, By_terminal, By_host, TerminalHears, HostHears, TerminalDeed, HostDeed, MergedWorkIsARun}
 
 -- a terminal's work on what was brought is its step

@@ -12,7 +12,8 @@ use Rattle.cap_host_answers.specs.Received.{place_or, place_named}
 use Rattle.cap_terminal_answers.specs.declared.handled.TermFault.{TermFault}
 use Rattle.cap_terminal_answers.specs.Takes.{Taken, refuses, is_for_us, takes, IsNotOurs}
 use Rattle.cap_terminal_answers.specs.Does.{Decision, Leave, Complete, Give_up, Decline, Decides}
-use Rattle.cap_world.specs.World.{TerminalState, World, TerminalAction, Takes_answer, Hears_foreign, TerminalDoes, Event, Acts, Interrupted, Restart, Interrupted_restart, TerminalStep, HostAction, Answers, Answers_foreign, Publishes, HostDoes, HostStep, Happening, At_terminal, At_host, Step, first, Run}
+use Rattle.cap_answering.specs.Steps.{Event, Acts, Interrupted, Restart, Interrupted_restart}
+use Rattle.cap_world.specs.World.{TerminalState, World, TerminalAction, Takes_answer, Hears_foreign, TerminalDoes, TerminalStep, HostAction, Answers, Answers_foreign, Publishes, HostDoes, HostStep, Happening, At_terminal, At_host, Step, first, Run}
 use Rattle.cap_entries.specs.SetUps.{SetUpsMatch}
 use Rattle.std.specs.Prelude.{Err}
 use Rattle.cap_world.proofs.Named.{NamingWorld, step_naming, run_naming, first_naming, NamedMessage, setup_kept, named_message}

@@ -15,7 +15,8 @@ use Rattle.cap_entries.specs.Entry.{term_setup_of}
 use Rattle.cap_entries.specs.Log.{setup_of}
 use Rattle.cap_host_answers.specs.Received.{place_from, place_of}
 use Rattle.cap_terminal_answers.specs.Sends.{Sending, Head, Batch_of, Ask, Ask_cancel, Diagnose, Report_status, Sends}
-use Rattle.cap_world.specs.World.{TerminalState, World, TerminalAction, Begins, Offline, Gives_up, Cancels, Closes, Sends_message, Takes_answer, Hears_foreign, TerminalDoes, Event, Acts, Interrupted, Restart, Interrupted_restart, TerminalStep, HostAction, delivered, HostStep, Happening, At_terminal, At_host, Step, started, first, Run}
+use Rattle.cap_answering.specs.Steps.{Event, Acts, Interrupted, Restart, Interrupted_restart}
+use Rattle.cap_world.specs.World.{TerminalState, World, TerminalAction, Begins, Offline, Gives_up, Cancels, Closes, Sends_message, Takes_answer, Hears_foreign, TerminalDoes, TerminalStep, HostAction, delivered, HostStep, Happening, At_terminal, At_host, Step, started, first, Run}
 use Rattle.cap_entries.specs.SetUps.{SetUpsMatch}
 
 -- facts about each element of a list

@@ -29,7 +29,8 @@ use Rattle.cap_host_answers.specs.Received.{answer_received, Replies, reply_to}
 use Rattle.cap_terminal_answers.specs.Takes.{Taken, queue_head, is_awaited, take_acknowledgement, take_reply, is_for_us, takes}
 use Rattle.cap_terminal_answers.specs.Does.{Leave}
 use Rattle.cap_terminal_answers.specs.Sends.{Head, message_of}
-use Rattle.cap_world.specs.World.{TerminalState, HostState, World, Sends_message, Takes_answer, TerminalStep, HostStep, Acts, Restart, Answers, delivered, Happening, At_terminal, At_host, Step, first, Run}
+use Rattle.cap_answering.specs.Steps.{Acts, Restart}
+use Rattle.cap_world.specs.World.{TerminalState, HostState, World, Sends_message, Takes_answer, TerminalStep, HostStep, Answers, delivered, Happening, At_terminal, At_host, Step, first, Run}
 use Rattle.cap_world.specs.Accepted.{approval_of, Accepts}
 use Rattle.cap_world.specs.Settled.{opened, opened_host, openings, restarts, IsWork, waiting, IsSettled, Settles, EveryRunCanSettle}
 use Rattle.cap_world.proofs.Named.{all_append, answered_by, names_same, own_host}

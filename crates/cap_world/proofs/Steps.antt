@@ -29,7 +29,8 @@ use Rattle.cap_plain.specs.KeptLaws.{captured_items}
 use Rattle.cap_plain.specs.Once.{one_end, one_cancel, one_close}
 use Rattle.cap_host_answers.specs.Answer.{Answered, answer_of}
 use Rattle.cap_host_answers.specs.Received.{answer_received, number_of, Replies}
-use Rattle.cap_world.specs.World.{TerminalState, HostState, World, TerminalAction, Event, Acts, Interrupted, Restart, Interrupted_restart, TerminalStep, HostAction, Answers, Answers_foreign, Publishes, HostDoes, HostStep, Happening, At_terminal, At_host, Step, first, Run, May}
+use Rattle.cap_answering.specs.Steps.{Event, Acts, Interrupted, Restart, Interrupted_restart}
+use Rattle.cap_world.specs.World.{TerminalState, HostState, World, TerminalAction, TerminalStep, HostAction, Answers, Answers_foreign, Publishes, HostDoes, HostStep, Happening, At_terminal, At_host, Step, first, Run, May}
 use Rattle.cap_entries.specs.SetUps.{SetUpsMatch}
 use Rattle.cap_world.proofs.Named.{all_append, all_front, all_kept, all_at, all_weaker, answered_by, delivered_cases, set_cases, NamingWorld, step_naming, started_cases, first_naming, setup_kept, named_message}
 use Rattle.cap_world.proofs.Sound.{AckWithin, ack_more, acked_from_within, AnswerOk, answer_more, SentOk, sent_more, is_taken_up, Sound, restarted, terminal_does_sound}

@@ -11,7 +11,8 @@ use Rattle.cap_entries.specs.Log.{published}
 use Rattle.cap_host_answers.specs.Received.{answer_received, Replies, place_named, IsForeign}
 use Rattle.cap_terminal_answers.specs.Takes.{takes, IsNotOurs}
 use Rattle.cap_terminal_answers.specs.Does.{Decision, Decides}
-use Rattle.cap_world.specs.World.{TerminalState, World, TerminalAction, Takes_answer, Hears_foreign, TerminalDoes, Event, Acts, Interrupted, Restart, Interrupted_restart, TerminalStep, HostStep, delivered, Happening, first, Run}
+use Rattle.cap_answering.specs.Steps.{Event, Acts, Interrupted, Restart, Interrupted_restart}
+use Rattle.cap_world.specs.World.{TerminalState, World, TerminalAction, Takes_answer, Hears_foreign, TerminalDoes, TerminalStep, HostStep, delivered, Happening, first, Run}
 use Rattle.cap_entries.specs.SetUps.{SetUpsMatch}
 
 -- a terminal at work: its own actions, and what arrives, whatever it is

@@ -13,7 +13,8 @@ use Rattle.cap_plain.specs.Queue.{queue}
 use Rattle.cap_plain.specs.KeptSales.{kept_sales}
 use Rattle.cap_terminal_answers.specs.Does.{Leave}
 use Rattle.cap_terminal_answers.specs.Sends.{Head}
-use Rattle.cap_world.specs.World.{TerminalState, HostState, World, Sends_message, Takes_answer, Acts, Restart, Answers, Happening, At_terminal, At_host, first, Run}
+use Rattle.cap_answering.specs.Steps.{Acts, Restart}
+use Rattle.cap_world.specs.World.{TerminalState, HostState, World, Sends_message, Takes_answer, Answers, Happening, At_terminal, At_host, first, Run}
 
 -- a terminal once it is on: where it was off, so many of the entries that an interrupted call tried stand
 abbrev pub opened : (kept : ℕ) → TerminalState → TerminalState

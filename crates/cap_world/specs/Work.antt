@@ -10,7 +10,8 @@ use Rattle.cap_entries.specs.Log.{published}
 use Rattle.cap_host_answers.specs.Received.{answer_received, Replies, place_named, IsForeign}
 use Rattle.cap_terminal_answers.specs.Takes.{takes}
 use Rattle.cap_terminal_answers.specs.Does.{Decision, Decides}
-use Rattle.cap_world.specs.World.{TerminalState, World, TerminalAction, Takes_answer, TerminalDoes, Event, Acts, Interrupted, Restart, Interrupted_restart, TerminalStep, HostStep, delivered, Happening, Run}
+use Rattle.cap_answering.specs.Steps.{Event, Acts, Interrupted, Restart, Interrupted_restart}
+use Rattle.cap_world.specs.World.{TerminalState, World, TerminalAction, Takes_answer, TerminalDoes, TerminalStep, HostStep, delivered, Happening, Run}
 
 -- a terminal at work: its own actions, what isn't for it among them, and a message that arrives
 pub data TerminalWork : Type 0 where

@@ -10,7 +10,8 @@ use Rattle.cap_entries.specs.Acked.{acked}
 use Rattle.cap_entries.specs.Log.{log}
 use Rattle.cap_terminal_answers.specs.Does.{Leave}
 use Rattle.cap_terminal_answers.specs.Sends.{Head}
-use Rattle.cap_world.specs.World.{TerminalState, World, Begins, Offline, Gives_up, Closes, Sends_message, Takes_answer, Acts, Interrupted, Restart, Answers, Happening, At_terminal, At_host, first, Run}
+use Rattle.cap_answering.specs.Steps.{Acts, Interrupted, Restart}
+use Rattle.cap_world.specs.World.{TerminalState, World, Begins, Offline, Gives_up, Closes, Sends_message, Takes_answer, Answers, Happening, At_terminal, At_host, first, Run}
 use Rattle.cap_entries.specs.SetUps.{SetUpsMatch}
 
 abbrev pub small_start : DateParts

@@ -14,6 +14,7 @@ use Rattle.cap_host_answers.specs.Received.{answer_received, Replies, place_name
 use Rattle.cap_terminal_answers.specs.Takes.{takes, IsNotOurs}
 use Rattle.cap_terminal_answers.specs.Does.{Begins_sale, Completes_offline, Gives_up_sale, Cancels_sale, Closes_period, Decision, Decides}
 use Rattle.cap_terminal_answers.specs.Sends.{Sending, Sends}
+use Rattle.cap_answering.specs.Steps.{Event, Acts, Interrupted, Restart, Interrupted_restart}
 
 -- a terminal: its journal, what an interrupted call may have added, whether it is on, and every message that it sent or was sent
 pub record TerminalState : Type 0 where
@@ -59,16 +60,6 @@ TerminalDoes s (Takes_answer which decision) added sent =
     × Decides s.settled (takes s.settled (Read message)).answer decision decided
     × (added ≡ (takes s.settled (Read message)).added ++ decided) × (sent ≡ [])
 TerminalDoes s (Hears_foreign received) added sent = IsNotOurs s.settled received × (added ≡ []) × (sent ≡ [])
-
--- an event at an end
-pub data Event (Action : Type 0) : Type 0 where
-  Acts : Action → Event Action
-  -- the power goes, or the disk fails, within the action
-  Interrupted : Action → Event Action
-  -- it is opened again, and so many of the entries tried stand
-  Restart : (kept : ℕ) → Event Action
-  -- so too, but it is off again; None: what was tried stays tried
-  Interrupted_restart : (kept : Option ℕ) → Event Action
 
 abbrev pub TerminalStep : TerminalState → Event TerminalAction → TerminalState → Type 0
 TerminalStep s (Acts action) new =

@@ -5,7 +5,7 @@ use Rattle.cap_entries.specs.declared.host.HostEntry.{HostEntry}
 use Rattle.cap_entries.specs.HostAllowed.{host_allowed}
 use Rattle.cap_entries.specs.FirstLaws.{host_refused-take, legal_host-take}
 use Rattle.cap_entries.specs.HostSummary.{host_summary}
-use Rattle.cap_host_ledger.specs.declared.fault.HostFault.{HostFault}
+use Rattle.cap_answering.specs.declared.fault.HostFault.{HostFault}
 use Rattle.cap_host_ledger.specs.Ledger.{entries_in, OnlyReads}
 use Rattle.cap_host_ledger.specs.Laws.{reads_then_reads, reads_lack}
 use Rattle.cap_host.specs.Host.{ending}

@@ -14,8 +14,8 @@ use Rattle.cap_host_index.specs.declared.index.LogIndex.{LogIndex}
 use Rattle.cap_host_ledger.specs.Ledger.{Adds, entries_in}
 use Rattle.cap_host.specs.Host.{entries_of, spare_of, ending}
 use Rattle.cap_host.specs.Ties.{HostTies}
-use Rattle.cap_host_ledger.specs.declared.fault.HostFault.{HostFault}
-use Rattle.cap_host_ledger.specs.declared.fault.HostFault.TheVariants.{Memory}
+use Rattle.cap_answering.specs.declared.fault.HostFault.{HostFault}
+use Rattle.cap_answering.specs.declared.fault.HostFault.TheVariants.{Memory}
 use Rattle.cap_host.proofs.Composed.{lacks_fault, lacks_behind, fails_reading}
 use Rattle.cap_host.proofs.Groups.{group_suffices, took_took, took_fit, grown_length, group_length}
 use Rattle.cap_host.proofs.TiesLaws.{ties_swapped, ties_took, length_replaced}

@@ -9,7 +9,6 @@ pub mod Approve
 pub mod Force
 pub mod ForceRuns
 pub mod LegalRuns
-pub mod Merged
 pub mod MergedBytes
 pub mod Worked
 pub mod Settling

@@ -13,11 +13,11 @@ use Rattle.cap_terminal_answers.specs.declared.handled.TermFault.{TermFault}
 use Rattle.cap_terminal_answers.specs.Takes.{Taken, refuses, is_for_us, takes, IsNotOurs}
 use Rattle.cap_terminal_answers.specs.Does.{Decision, Leave, Complete, Give_up, Decline, Decides}
 use Rattle.cap_answering.specs.Steps.{Event, Acts, Interrupted, Restart, Interrupted_restart}
-use Rattle.cap_world.specs.World.{TerminalState, World, TerminalAction, Takes_answer, Hears_foreign, TerminalDoes, TerminalStep, HostAction, Answers, Answers_foreign, Publishes, HostDoes, HostStep, Happening, At_terminal, At_host, Step, first, Run}
+use Rattle.cap_world.specs.World.{TerminalState, World, TerminalAction, Begins, Offline, Gives_up, Cancels, Closes, Sends_message, Takes_answer, Hears_foreign, TerminalDoes, TerminalStep, HostAction, Answers, Answers_foreign, Publishes, HostDoes, HostStep, Happening, At_terminal, At_host, Step, first, Run}
 use Rattle.cap_entries.specs.SetUps.{SetUpsMatch}
 use Rattle.std.specs.Prelude.{Err}
 use Rattle.cap_world.proofs.Named.{NamingWorld, step_naming, run_naming, first_naming, NamedMessage, setup_kept, named_message}
-use Rattle.cap_world.specs.Node.{TerminalTask, Does_own, Takes_received, TerminalTasks, HostTask, Answers_received, Adds_set, HostTasks, TerminalIsBrought, HostIsBrought, TerminalDoing, HostDoing, Doing, By_terminal, By_host, MergedBytes, MergedBytesAreARun}
+use Rattle.cap_world.specs.Node.{TerminalTask, Does_own, Takes_received, IsOwnTask, terminal_with, TerminalTasks, HostTask, Answers_received, Adds_set, HostTasks, TerminalIsBrought, HostIsBrought, TerminalDoing, HostDoing, Doing, By_terminal, By_host, MergedBytes, MergedBytesAreARun}
 
 -- a refusal leaves nothing to decide
 no_decision : (entries : List TermEntry) (fault : TermFault) (decision : Decision) (decided : List TermEntry) → Decides entries (Err fault) decision decided → decided ≡ []
@@ -30,14 +30,25 @@ not_ours : (entries : List TermEntry) (received : Received) → IsNotOurs entrie
 not_ours entries (Unread fault) foreign = (_, refl)
 not_ours entries (Read message) foreign = (_, cond-false (is_for_us entries message) _ _ foreign)
 
-terminal_foreign : (s : TerminalState) (received : Received) (decision : Decision) (added : List TermEntry) (put : List Message) → IsNotOurs s.settled received → TerminalTasks s (Takes_received received decision) added put → (action : TerminalAction) × TerminalDoes s action added put
+terminal_foreign : (s : TerminalState) (received : Received) (decision : Decision) (added : List TermEntry) (put : List Message) → IsNotOurs s.settled received → TerminalTasks s.settled (Takes_received received decision) added put → (action : TerminalAction) × TerminalDoes s action added put
 terminal_foreign s received decision added put foreign (decided, decides, is, none) =
     let (fault, same) = not_ours s.settled received foreign in
     let decides' = subst (λ (t : Taken). Decides s.settled t.answer decision decided) same decides in
     (Hears_foreign received, (foreign, is ∙ (ap (λ (t : Taken). t.added ++ decided) same ∙ no_decision s.settled fault decision decided decides'), none))
 
-terminal_tasks : (s : TerminalState) (task : TerminalTask) (added : List TermEntry) (put : List Message) → TerminalIsBrought s task → TerminalTasks s task added put → (action : TerminalAction) × TerminalDoes s action added put
-terminal_tasks s (Does_own action) added put brought (own, does) = (action, does)
+-- an action of its own asks for its journal alone
+own_does : (s : TerminalState) (action : TerminalAction) (added : List TermEntry) (put : List Message) → IsOwnTask action → TerminalDoes (terminal_with s.settled) action added put → TerminalDoes s action added put
+own_does s (Begins amount account) added put own does = does
+own_does s (Offline n) added put own does = does
+own_does s (Gives_up n) added put own does = does
+own_does s (Cancels n) added put own does = does
+own_does s Closes added put own does = does
+own_does s (Sends_message what moment) added put own does = does
+own_does s (Takes_answer which decision) added put own does = absurd own
+own_does s (Hears_foreign received) added put own does = absurd own
+
+terminal_tasks : (s : TerminalState) (task : TerminalTask) (added : List TermEntry) (put : List Message) → TerminalIsBrought s task → TerminalTasks s.settled task added put → (action : TerminalAction) × TerminalDoes s action added put
+terminal_tasks s (Does_own action) added put brought (own, does) = (action, own_does s action added put own does)
 terminal_tasks s (Takes_received (Unread fault) decision) added put brought tasks = terminal_foreign s (Unread fault) decision added put tt tasks
 terminal_tasks s (Takes_received (Read message) decision) added put brought tasks =
     let (decided, decides, is, none) = tasks in

@@ -4,7 +4,6 @@ pub mod Accepted
 pub mod Approved
 pub mod SetsInForce
 pub mod LegalJournals
-pub mod Work
 pub mod Node
 pub mod Worked
 pub mod Settled

@@ -25,12 +25,16 @@ IsOwnTask (Takes_answer which decision) = ⊥
 IsOwnTask (Hears_foreign received) = ⊥
 IsOwnTask _ = Unit {0}
 
--- what it adds and puts on the link; this names its own journal, and what its bytes read as, alone
-abbrev pub TerminalTasks : TerminalState → TerminalTask → List TermEntry → List Message → Type 0
-TerminalTasks s (Does_own action) added put = IsOwnTask action × TerminalDoes s action added put
-TerminalTasks s (Takes_received received decision) added put =
-    (decided : List TermEntry) × Decides s.settled (takes s.settled received).answer decision decided
-    × (added ≡ (takes s.settled received).added ++ decided) × (put ≡ [])
+-- a terminal with this journal
+abbrev pub terminal_with : List TermEntry → TerminalState
+terminal_with entries = record { settled = entries; tried = []; on = true; sent = []; answers = [] }
+
+-- what it adds and puts on the link, by its own journal and what its bytes read as
+abbrev pub TerminalTasks : List TermEntry → TerminalTask → List TermEntry → List Message → Type 0
+TerminalTasks entries (Does_own action) added put = IsOwnTask action × TerminalDoes (terminal_with entries) action added put
+TerminalTasks entries (Takes_received received decision) added put =
+    (decided : List TermEntry) × Decides entries (takes entries received).answer decision decided
+    × (added ≡ (takes entries received).added ++ decided) × (put ≡ [])
 
 -- a host at work: whatever arrives, and a set
 pub data HostTask : Type 0 where
@@ -64,10 +68,10 @@ HostIsBrought w (Answers_received received moment) =
 
 abbrev pub TerminalDoing : TerminalState → Event TerminalTask → TerminalState → Type 0
 TerminalDoing s (Acts task) new =
-    (added : List TermEntry) × (put : List Message) × (s.on ≡ true) × TerminalIsBrought s task × TerminalTasks s task added put
+    (added : List TermEntry) × (put : List Message) × (s.on ≡ true) × TerminalIsBrought s task × TerminalTasks s.settled task added put
     × (new ≡ record { settled = s.settled ++ added; tried = []; on = true; sent = s.sent ++ put; answers = s.answers })
 TerminalDoing s (Interrupted task) new =
-    (added : List TermEntry) × (put : List Message) × (s.on ≡ true) × TerminalIsBrought s task × TerminalTasks s task added put
+    (added : List TermEntry) × (put : List Message) × (s.on ≡ true) × TerminalIsBrought s task × TerminalTasks s.settled task added put
     × (new ≡ record { settled = s.settled; tried = added; on = false; sent = s.sent; answers = s.answers })
 TerminalDoing s (Restart kept) new = TerminalStep s (Restart kept) new
 TerminalDoing s (Interrupted_restart kept) new = TerminalStep s (Interrupted_restart kept) new

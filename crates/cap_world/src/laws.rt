@@ -6,7 +6,6 @@ ghost use Rattle.cap_world.specs.Accepted.{EveryAdviceIsAccepted, EveryAnswerIsE
 ghost use Rattle.cap_world.specs.Approved.{EveryCompletionIsApproved};
 ghost use Rattle.cap_world.specs.SetsInForce.{EverySetIsPublished, NoSetGoesBack};
 ghost use Rattle.cap_world.specs.LegalJournals.{EveryTerminalJournalIsLegal, EveryHostJournalIsLegal};
-ghost use Rattle.cap_world.specs.Work.{MergedWorkIsARun};
 ghost use Rattle.cap_world.specs.Node.{MergedBytesAreARun};
 ghost use Rattle.cap_world.specs.Settled.{EveryRunCanSettle};
 ghost use Rattle.cap_world.specs.Worked.{FirstSaleIsARun, InterruptedSaleIsARun, SettledSaleIsARun};
@@ -60,11 +59,6 @@ pub fn every_terminal_journal_is_legal()
 /// Whatever a power cut may have left of the host's journal is legal.
 pub fn every_host_journal_is_legal()
     ensures { EveryHostJournalIsLegal }
-{}
-
-/// The work of the ends on messages that they sent each other, merged into one list, leads from any world through worlds of a run.
-pub fn merged_work_is_a_run()
-    ensures { MergedWorkIsARun }
 {}
 
 /// The work of the ends on what a network brings, where each message was sent by its sender or is foreign, merged into one list, leads

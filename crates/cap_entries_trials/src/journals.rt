@@ -21,11 +21,18 @@ pub(crate) fn new_journal<E: Record>(alloc: Global) -> Option<Trial<E>>
 
 /// Adds an entry.
 #[tactic(auto, using(crate::proofs::Room::one_row))]
-pub(crate) fn add<E: Record>(journal: &mut Trial<E>, entry: E) -> Option<()>
+pub(crate) fn add_to<E: Record, J: Journal<E>>(journal: &mut J, entry: E) -> Option<()>
     requires { IsTrue (E.fits entry) }
 {
     journal.reserve_rows().ok()?;
     journal.append(entry).ok()
+}
+
+/// Adds an entry to a journal in memory.
+pub(crate) fn add<E: Record>(journal: &mut Trial<E>, entry: E) -> Option<()>
+    requires { IsTrue (E.fits entry) }
+{
+    add_to(journal, entry)
 }
 
 /// All bytes of a disk.

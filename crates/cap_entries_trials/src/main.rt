@@ -2,6 +2,7 @@
 //! by one line. An empty line and one that begins with `#` are passed on.
 #![tactic(auto)]
 
+mod counting;
 mod ends;
 mod entries;
 mod faults;

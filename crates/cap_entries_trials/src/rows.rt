@@ -1,6 +1,6 @@
 // The cases by their first words.
 use crate::words::{cut, text};
-use crate::{ends, faults, files, hosts, items, records, sales, sets};
+use crate::{counting, ends, faults, files, hosts, items, records, sales, sets};
 use cap_base::Memory;
 use std::alloc::{AllocError, Global};
 
@@ -39,6 +39,7 @@ fn file(alloc: Global, verb: &str, words: &str) -> Result<String, Memory> {
         "open" => files::open(alloc, words),
         "init" => files::begin(alloc, words),
         "fault" => faults::left(alloc, words),
+        "appends" => counting::appends(alloc),
         _ => ends::ends(alloc),
     }
 }
@@ -48,7 +49,7 @@ fn answer(alloc: Global, verb: &str, words: &str) -> Result<String, Memory> {
         "set" | "many" | "floor" | "setup" | "names" | "blocks" => set(alloc, verb, words),
         "terminal" | "host" | "record" | "read" => journal(alloc, verb, words),
         "offline" | "authorise" | "knows" => sale(alloc, verb, words),
-        "file" | "samples" | "open" | "init" | "fault" | "ends" => file(alloc, verb, words),
+        "file" | "samples" | "open" | "init" | "fault" | "ends" | "appends" => file(alloc, verb, words),
         _ => text(alloc, "no such case"),
     }
 }

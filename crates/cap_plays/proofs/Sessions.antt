@@ -14,13 +14,16 @@ use Rattle.cap_schedule.specs.declared.schedule.Line.{Line}
 use Rattle.cap_schedule.specs.declared.schedule.Schedule.{Schedule}
 use Rattle.cap_schedule.specs.Outcomes.{outcome_line, outcome_lines}
 use Rattle.cap_world.specs.World.{TerminalState}
-use Rattle.cap_plays.specs.Turns.{Scene}
+use Rattle.cap_entries.specs.Items.{items}
+use Rattle.cap_entries.specs.Log.{log}
+use Rattle.cap_entries.specs.Fronts.{prefix_whole}
+use Rattle.cap_plays.specs.Turns.{Scene, world_of}
 use Rattle.cap_plays.specs.Plays.{Doubts, doubt_at, with_doubt, MayKeep, acting, moment_of, fate, closing_fate, nothing_played, play_behind, silently_behind, Reopens, terminals_from, first_scene, first_doubts}
 use Rattle.cap_plays.specs.Report.{ends_text}
 use Rattle.cap_schedule.specs.Reader.{IsReader}
 use Rattle.cap_schedule.specs.Nobodys.{IsNoise, NoiseIsNobodys}
 use Rattle.cap_schedule.specs.Ranges.{ActionInRange}
-use Rattle.cap_plays.specs.Laws.{AllOn, InRange, EveryPlayAgrees, EveryPlayEndsOn}
+use Rattle.cap_plays.specs.Laws.{AllOn, EndsAgree, VerdictsHold, InRange, EveryPlayAgrees, EveryPlayEndsOn}
 use Rattle.cap_plays.specs.Session.{ActsSo, ReopensSo, Continues, Closes, ActedAll, ReopenedAll, ReopenedTo, ReportsSo, IsPlayed}
 use Rattle.cap_plays.proofs.Chains.{fate_runs, closing_runs, reached_by, does_run}
 
@@ -135,6 +138,11 @@ reopened_last first old place count has past so_far = λ s v doubts range reache
     let all = closes (nothing_played w) (subst (λ l. Reopens (terminals_from place l) w doubts (nothing_played w)) (sym none) refl) in
     (all.0, all.1, all.3, subst (λ u. old u doubts) (sym all.2) stands_w)
 
+-- a log that is as long as the items of which it is a front is all of them
+verdicts_hold : (w : Scene) → EndsAgree (world_of w) → VerdictsHold w
+verdicts_hold w agree place s at le =
+    prefix_whole (log w.host.settled place) (items s.settled) (agree place s at s.settled (0, sym (append-nil s.settled)) w.host.settled (0, sym (append-nil w.host.settled))).front le
+
 -- the whole text
 pub played_all : (corresponds after reported : Scene → Doubts → Type 0) (s : Schedule) (text whole : List ℕ) → InRange s → ActedAll corresponds s [] [] text → ReopenedAll corresponds after
     → ReportsSo after reported s text whole → EveryPlayAgrees → EveryPlayEndsOn
@@ -145,14 +153,21 @@ played_all corresponds after reported s text whole range acted reopened reports 
     let (played, does, last, lines) = so_far.goes_on rest closes in
     let at_last : after played.last so_far.doubts = subst (λ u. after u so_far.doubts) (sym last) after_stands in
     let all_on : AllOn played.last = ends_on reads s played does in
+    let steps = does_run reads s played range noise does in
+    let agree = agrees reads s played range noise does in
     let e : outcome_lines s.lines played.outcomes ≡ text = lines ∙ append-nil text in
-    let at_end = reports played.last so_far.doubts (played.happenings, does_run reads s played range noise does) all_on at_last in
+    let at_end = reports played.last so_far.doubts (played.happenings, steps) all_on at_last in
     record {
       played = played;
       doubts = so_far.doubts;
-      does = does;
-      agrees = agrees reads s played range noise does;
-      all_on = all_on;
+      run = record {
+        set_ups = range.set_ups;
+        does = does;
+        steps = steps;
+        agrees = agree;
+        verdicts = verdicts_hold played.last agree;
+        all_on = all_on;
+      };
       stands = at_end.0;
       reports = at_end.1 ∙ ap (λ l. l ++ ends_text played.last 0 s.terminals played.last.terminals) (sym e);
     }

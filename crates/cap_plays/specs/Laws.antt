@@ -1,5 +1,5 @@
 -- The laws of schedules: what they name is a run, in which the ends agree; without faults it is one run; and at its end every end is on.
-use Rattle.std.specs.Prelude.{◌≡◌, ◌⊎◌, ⊤, ℕ, ◌≤◌, true, List, Option, Some, slice_get}
+use Rattle.std.specs.Prelude.{◌≡◌, ◌⊎◌, ⊤, ℕ, ◌≤◌, true, List, length, Option, Some, slice_get}
 use Rattle.std.specs.List.{AllByRecursion}
 use Rattle.std.proofs.Common.{refl, sym, subst, inl, inr}
 use Rattle.cap_base.specs.declared.codes.DataSet.{DataSet}
@@ -9,6 +9,7 @@ use Rattle.cap_leaf.specs.Date.{DateParts}
 use Rattle.cap_msgs.specs.Received.{Received}
 use Rattle.cap_entries.specs.declared.terminal.TermEntry.{TermEntry}
 use Rattle.cap_entries.specs.declared.host.HostEntry.{HostEntry}
+use Rattle.cap_entries.specs.Items.{items}
 use Rattle.cap_entries.specs.Log.{log}
 use Rattle.cap_plain.specs.Agreed.{Agreed}
 use Rattle.cap_schedule.specs.declared.schedule.Prefix.{Prefix}
@@ -87,6 +88,21 @@ OneTextWithoutFaults =
 pub record AllOn (w : Scene) : Type 0 where
   pub host : w.host.on ≡ true
   pub terminals : (place : ℕ) (s : TerminalState) → slice_get w.terminals place ≡ Some s → s.on ≡ true
+
+-- where the report says of a terminal that it agrees, the host's log of it is its list of items
+abbrev pub VerdictsHold : Scene → Type 0
+VerdictsHold w =
+    (place : ℕ) (s : TerminalState) → slice_get w.terminals place ≡ Some s
+    → length (items s.settled) ≤ length (log w.host.settled place) → log w.host.settled place ≡ items s.settled
+
+-- what was run: a play of the schedule, which is a run of the model from its set-ups. In its last world the ends agree, and every end is on
+pub record IsRun (reads : List ℕ → Received) (s : Schedule) (played : Played) : Type 0 where
+  pub set_ups : Matching s
+  pub does : Does reads s played
+  pub steps : Run (first_world s) played.happenings (world_of played.last)
+  pub agrees : EndsAgree (world_of played.last)
+  pub verdicts : VerdictsHold played.last
+  pub all_on : AllOn played.last
 
 abbrev pub EveryPlayEndsOn : Type 0
 EveryPlayEndsOn = (reads : List ℕ → Received) (s : Schedule) (played : Played) → Does reads s played → AllOn played.last

@@ -13,7 +13,7 @@ use Rattle.cap_plays.specs.Plays.{Doubts, doubt_at, with_doubt, MayKeep, acting,
 use Rattle.cap_plays.specs.Report.{ends_text, report}
 use Rattle.cap_schedule.specs.Reader.{IsReader}
 use Rattle.cap_schedule.specs.Nobodys.{IsNoise, NoiseIsNobodys}
-use Rattle.cap_plays.specs.Laws.{EndsAgree, AllOn, InRange, IsReached}
+use Rattle.cap_plays.specs.Laws.{AllOn, InRange, IsReached, IsRun}
 
 -- these are the scene and the doubts after a fate, and its outcome was said
 abbrev pub IsFate : (corresponds : Scene → Doubts → Type 0) → Doubts → End → Outcome → Fate → Type 0
@@ -30,13 +30,11 @@ abbrev pub Reopened : (corresponds : Scene → Doubts → Type 0) → Scene → 
 Reopened corresponds w doubts end =
     (kept : ℕ) × MayKeep (doubt_at doubts end) kept × corresponds (closing_fate w (doubt_at doubts end) kept end).scene doubts
 
--- a play of the schedule was made, in whose last world the ends agree and every end is on: this is its text, and the network stands to that scene
+-- a play of the schedule was made: this is its text, and the network stands to its last scene
 pub record IsPlayed (reads : List ℕ → Received) (corresponds : Scene → Doubts → Type 0) (s : Schedule) (text : List ℕ) : Type 0 where
   pub played : Played
   pub doubts : Doubts
-  pub does : Does reads s played
-  pub agrees : EndsAgree (world_of played.last)
-  pub all_on : AllOn played.last
+  pub run : IsRun reads s played
   pub stands : corresponds played.last doubts
   pub reports : text ≡ report s played
 

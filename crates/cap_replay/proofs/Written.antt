@@ -32,9 +32,7 @@ replays old new bytes text s disks some says quiet played puts = record {
         schedule = s;
         played = over.played;
         says = says reads reader;
-        does = over.does;
-        agrees = over.agrees;
-        all_on = over.all_on;
+        run = over.run;
         puts = subst (λ (t : List ℕ). Appends old new t) over.reports puts;
         holds = over.holds;
       };
@@ -49,9 +47,7 @@ replays_front old new bytes text s disks some says quiet played puts = record {
         schedule = s;
         played = over.played;
         says = says reads reader;
-        does = over.does;
-        agrees = over.agrees;
-        all_on = over.all_on;
+        run = over.run;
         puts = subst (λ (t : List ℕ). AppendsSome old new t) over.reports puts;
       };
 }

@@ -4,9 +4,9 @@ use Rattle.std.specs.List.{concat}
 use Rattle.std.specs.Fmt.{decimal}
 use Rattle.cap_msgs.specs.Received.{Received}
 use Rattle.cap_schedule.specs.declared.schedule.Schedule.{Schedule}
-use Rattle.cap_plays.specs.Turns.{Scene, world_of}
-use Rattle.cap_plays.specs.Plays.{Played, Does}
-use Rattle.cap_plays.specs.Laws.{EndsAgree, AllOn}
+use Rattle.cap_plays.specs.Turns.{Scene}
+use Rattle.cap_plays.specs.Plays.{Played}
+use Rattle.cap_plays.specs.Laws.{IsRun}
 use Rattle.cap_plays.specs.Report.{ends_text}
 use Rattle.cap_replay.specs.Replays.{ForReaders}
 use Rattle.cap_replay.specs.Generator.{made_actions, made_schedule}
@@ -15,12 +15,10 @@ use Rattle.cap_replay.specs.Generator.{made_actions, made_schedule}
 abbrev pub report_of_ends : Schedule → Scene → List ℕ
 report_of_ends s w = ends_text w 0 s.terminals w.terminals
 
--- a run of the schedule was made, in whose last world the ends agree and every end is on, and this is the report on them
+-- a run of the schedule was made, and this is the report on its ends
 pub record IsReported (reads : List ℕ → Received) (s : Schedule) (text : List ℕ) : Type 0 where
   pub played : Played
-  pub does : Does reads s played
-  pub agrees : EndsAgree (world_of played.last)
-  pub all_on : AllOn played.last
+  pub run : IsRun reads s played
   pub reports : text ≡ report_of_ends s played.last
 
 unfoldable pub first_line : (sales lines : ℕ) → List ℕ

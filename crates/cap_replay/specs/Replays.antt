@@ -6,10 +6,9 @@ use Rattle.cap_msgs.specs.Received.{Received}
 use Rattle.cap_disk.specs.declared.memory.MemoryDisk.{MemoryDisk}
 use Rattle.cap_schedule.specs.declared.schedule.Schedule.{Schedule}
 use Rattle.cap_schedule.specs.Language.{reading, Reads, Faulty}
-use Rattle.cap_plays.specs.Turns.{world_of}
-use Rattle.cap_plays.specs.Plays.{Played, Does}
+use Rattle.cap_plays.specs.Plays.{Played}
 use Rattle.cap_schedule.specs.Reader.{IsReader}
-use Rattle.cap_plays.specs.Laws.{EndsAgree, AllOn}
+use Rattle.cap_plays.specs.Laws.{IsRun}
 use Rattle.cap_plays.specs.Report.{report}
 use Rattle.cap_replay.specs.Disks.{DisksHold}
 
@@ -22,24 +21,20 @@ pub record ForReaders (P : (List ℕ → Received) → Type 0) : Type 0 where
 abbrev pub SaysFaulty : List ℕ → ℕ → Type 0
 SaysFaulty bytes k = ForReaders (λ reads. reading reads bytes ≡ Faulty k)
 
--- a run of the schedule was made, in whose last world the ends agree and every end is on. This is its text, and these are the disks that it leaves
+-- a run of the schedule was made: this is its text, and these are the disks that it leaves
 pub record IsPlayedOver (reads : List ℕ → Received) (s : Schedule) (text : List ℕ) (disks : List MemoryDisk) : Type 0 where
   pub played : Played
-  pub does : Does reads s played
-  pub agrees : EndsAgree (world_of played.last)
-  pub all_on : AllOn played.last
+  pub run : IsRun reads s played
   pub reports : text ≡ report s played
   pub holds : DisksHold disks played.last
 
--- the bytes are a schedule of which a run was made, in whose last world the ends agree and every end is on. Its whole text was appended, and each of
--- these disks has exactly the entries of its end, whatever image of it a crash may leave
+-- The bytes are a schedule, and a run of it was made. Its whole text was appended, and each of these disks has exactly the entries of its end, whatever
+-- image of it a crash may leave
 pub record Replayed (reads : List ℕ → Received) (old new : Option (List ℕ)) (bytes : List ℕ) (disks : List MemoryDisk) : Type 0 where
   pub schedule : Schedule
   pub played : Played
   pub says : reading reads bytes ≡ Reads schedule
-  pub does : Does reads schedule played
-  pub agrees : EndsAgree (world_of played.last)
-  pub all_on : AllOn played.last
+  pub run : IsRun reads schedule played
   pub puts : Appends old new (report schedule played)
   pub holds : DisksHold disks played.last
 
@@ -48,9 +43,7 @@ pub record ReplayedFront (reads : List ℕ → Received) (old new : Option (List
   pub schedule : Schedule
   pub played : Played
   pub says : reading reads bytes ≡ Reads schedule
-  pub does : Does reads schedule played
-  pub agrees : EndsAgree (world_of played.last)
-  pub all_on : AllOn played.last
+  pub run : IsRun reads schedule played
   pub puts : AppendsSome old new (report schedule played)
 
 abbrev pub Replays : Option (List ℕ) → Option (List ℕ) → List ℕ → List MemoryDisk → Type 0

@@ -10,7 +10,7 @@ use crate::ends::Ends;
 use crate::generator::made;
 use cap_base::Memory;
 use cap_msgs::reading_is_exact;
-use cap_plays::{laws, play};
+use cap_plays::play;
 use cap_schedule::Schedule;
 use std::alloc::{AllocError, Global};
 
@@ -19,7 +19,6 @@ fn report_over<N: Ends>(alloc: Global, schedule: &Schedule) -> Result<Vec<u8>, M
     requires { InRange schedule.now }
     ensures { IfOk result (λ text. (reads : List ℕ → Received) → IsReader reads → NoiseIsNobodys reads schedule.now → IsReported reads schedule.now text.items) }
 {
-    laws::every_play_is_a_run();
     let mut ends = N::set_up(alloc, schedule)?;
     play(alloc, &mut ends, schedule)?;
     let mut report = Vec::new(alloc);

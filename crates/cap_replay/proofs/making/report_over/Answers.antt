@@ -8,13 +8,11 @@ pub returns : goal.returns
 returns g c = λ reads reader noise.
     let s = c.args.schedule.now in
     let p = c.in_ok-play.ensures reads reader noise in
-    let reached : IsReached s p.played.last = (p.played.happenings, c.every_play_is_a_run.ensures reads s p.played c.requires noise p.does) in
+    let reached : IsReached s p.played.last = (p.played.happenings, p.run.steps) in
     let reports : ReportsSo (g.N.Network.corresponds c.play.new.network) (g.N.Network.corresponds c.put_report.new.self) s c.new-report.result.items c.put_report.new.text.items = c.in_ok-put_report.ensures in
-    let said = reports p.played.last p.doubts reached p.all_on p.stands in
+    let said = reports p.played.last p.doubts reached p.run.all_on p.stands in
     record {
       played = p.played;
-      does = p.does;
-      agrees = p.agrees;
-      all_on = p.all_on;
+      run = p.run;
       reports = said.1 ∙ ap (λ (l : List ℕ). l ++ report_of_ends s p.played.last) c.new-report.ensures.items;
     }

@@ -5,9 +5,7 @@ returns g c = λ reads reader noise.
     let p = c.in_ok-text.ensures reads reader noise in
     record {
       played = p.played;
-      does = p.does;
-      agrees = p.agrees;
-      all_on = p.all_on;
+      run = p.run;
       reports = p.reports;
-      holds = c.in_ok-disks.ensures p.played.last p.doubts p.stands p.all_on;
+      holds = c.in_ok-disks.ensures p.played.last p.doubts p.stands p.run.all_on;
     }

@@ -1,7 +1,6 @@
 // Calls of a host that is on, and what they leave of it.
 ghost use Rattle.std.specs.Prelude.{◌≡◌, ◌≤◌, ◌+◌, ℕ, [], ◌∷◌, length, IfOk, OnOk};
 ghost use Rattle.cap_disk.specs.Disk.{Counts};
-ghost use Rattle.cap_msgs.specs.Moment.{IsMoment};
 ghost use Rattle.cap_msgs.specs.Received.{Received};
 ghost use Rattle.cap_msgs.specs.Reads.{Reads as Reads_as};
 ghost use Rattle.cap_host_answers.specs.Received.{answer_received};
@@ -14,17 +13,8 @@ use crate::answer::{Answer, read_reply};
 use cap_entries::{HostEntry, RowSet};
 use cap_host::{Host, HostFault, PublishFault, Reply};
 use cap_journal::Journal;
-use cap_leaf::DateTime;
 use cap_plays::LineFault;
 use std::alloc::Global;
-
-/// The date and time of a moment.
-pub(crate) fn date_of(moment: u64) -> DateTime
-    requires { moment ≤ 253402300799 }
-    ensures { IsMoment moment result }
-{
-    DateTime::utc(moment)
-}
 
 /// Nothing is done to the host.
 pub(crate) fn rest<J: Journal<HostEntry> + Drop>(host: &Host<J>)

@@ -4,12 +4,12 @@ ghost use Rattle.cap_schedule.specs.declared.schedule.HostOrder.TheVariants as W
 ghost use Rattle.cap_host.specs.Host.{has_failed};
 ghost use Rattle.cap_host_lines.specs.Acts.{ActsAs, Delivers, FindsNone};
 
-use crate::calls::{answer, date_of, publish_set, rest};
+use crate::calls::{answer, publish_set, rest};
 use crate::said::{HostSaid, counted, dropped, published};
 use cap_entries::{HostEntry, RowSet};
 use cap_host::Host;
 use cap_journal::Journal;
-use cap_plays::LineFault;
+use cap_plays::{LineFault, date_of};
 use cap_schedule::Outcome;
 use std::alloc::Global;
 
@@ -27,7 +27,7 @@ pub fn deliver<J: Journal<HostEntry> + Drop>(
     ensures works { OnOk result (has_failed host.new ≡ has_failed host.old) }
 {
     cap_msgs::texts_read_again();
-    let _ = date_of(moment);
+    date_of(moment);
     let given = answer(alloc, host, moment, text);
     counted(place, given)
 }
@@ -38,7 +38,7 @@ pub fn missing<J: Journal<HostEntry> + Drop>(host: &Host<J>, moment: u64, which:
     ensures { FindsNone host.now moment which (Ok result) }
 {
     rest(host);
-    let _ = date_of(moment);
+    date_of(moment);
     HostSaid {
         outcome: Outcome::NoMessage(which),
         reply: None,
@@ -55,7 +55,7 @@ pub fn publish<J: Journal<HostEntry> + Drop>(
     ensures acts { ActsAs host.old host.new moment (W.Publish rows.now) result }
     ensures works { OnOk result (has_failed host.new ≡ has_failed host.old) }
 {
-    let _ = date_of(moment);
+    date_of(moment);
     let given = publish_set(host, rows);
     published(given)
 }
@@ -71,7 +71,7 @@ pub fn listen<J: Journal<HostEntry> + Drop>(
     ensures acts { ActsAs host.old host.new moment (W.Listen bytes.now) result }
     ensures works { OnOk result (has_failed host.new ≡ has_failed host.old) }
 {
-    let _ = date_of(moment);
+    date_of(moment);
     let given = answer(alloc, host, moment, bytes);
     dropped(given)
 }

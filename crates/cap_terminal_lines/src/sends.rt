@@ -1,11 +1,9 @@
 // Messages that a terminal sends.
 ghost use Rattle.std.specs.Prelude.{◌≡◌, ◌≤◌, ◌<◌, ◌+◌, ◌^◌, nat_lt, length, take, true, None, if◌then◌else◌};
-ghost use Rattle.cap_leaf.specs.Date.{DateParts};
 ghost use Rattle.cap_sale_msgs.specs.declared.body.SaleBody.TheVariants.{AuthRequest, CancelRequest};
 ghost use Rattle.cap_batch_msgs.specs.declared.body.BatchBody.TheVariants.{Batch, Diagnostic};
 ghost use Rattle.cap_mgmt_msgs.specs.declared.body.MgmtBody.TheVariants.{Status};
 ghost use Rattle.cap_msgs.specs.declared.message.Body.TheVariants.{Sale as Of_sale, Batch as Of_batch, Management as Of_management};
-ghost use Rattle.cap_msgs.specs.Moment.{IsMoment};
 ghost use Rattle.cap_entries.specs.Entry.{is_pending, amount_of, account_of};
 ghost use Rattle.cap_entries.specs.Acked.{acked};
 ghost use Rattle.cap_entries.specs.InForce.{version_in_force, staged_from, staged_version, staged_count};
@@ -22,9 +20,8 @@ use crate::said::{Said, quiet};
 use cap_base::DataSet;
 use cap_entries::TermEntry;
 use cap_journal::Journal;
-use cap_leaf::DateTime;
 use cap_msgs::{Message, encode, texts_read_again};
-use cap_plays::LineFault;
+use cap_plays::{LineFault, date_of};
 use cap_schedule::Outcome;
 use cap_terminal::{AskFault, Terminal};
 use std::alloc::Global;
@@ -45,14 +42,6 @@ fn send(alloc: Global, message: &Message, sent: u64) -> Result<Said, LineFault>
         }),
         Err(_) => Err(LineFault::Memory),
     }
-}
-
-/// Each moment has its date and time.
-pub(crate) fn date_of(moment: u64)
-    requires { moment ≤ 253402300799 }
-    ensures { (created : DateParts) × IsMoment moment created }
-{
-    let _ = DateTime::utc(moment);
 }
 
 /// Sends the oldest item that is not acknowledged.

@@ -15,7 +15,7 @@ pub returns-clause-delivers : goal.returns-clause-delivers
 returns-clause-delivers g c = λ reads w terminal which message armed ended before ready there text_is place_is.
     let text_reads : Reads c.args.text.now (Read message) = subst (λ (t : List ℕ). Reads t (Read message)) (sym text_is.text_is) (c.texts_read_again.ensures.again message text_is.spellable) in
     subst (λ (r : Result HostSaid LineFault). Acted reads c.answer-given.new.host w c.args.moment (W.Up terminal which) armed ended before r) (sym c.counted.ensures)
-    (delivered_line c.args.host.now c.answer-given.new.host reads w c.args.moment c.date_of.result terminal which message c.args.place armed ended before c.answer-given.result c.date_of.ensures ready there place_is
+    (delivered_line c.args.host.now c.answer-given.new.host reads w c.args.moment c.date_of.ensures.0 terminal which message c.args.place armed ended before c.answer-given.result c.date_of.ensures.1 ready there place_is
     (c.answer-given.ensures.hears (Read message) text_reads before ready.working))
 
 pub returns-clause-works : goal.returns-clause-works

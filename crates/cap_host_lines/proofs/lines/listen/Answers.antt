@@ -12,7 +12,7 @@ use Rattle.cap_host_lines.proofs.lines.listen.Goals as goal
 pub returns-clause-acts : goal.returns-clause-acts
 returns-clause-acts g c = λ reads w armed ended before reader ready.
     subst (λ (r : Result HostSaid LineFault). Acted reads c.answer-given.new.host w c.args.moment (W.Listen c.args.bytes.now) armed ended before r) (sym c.dropped.ensures)
-    (listened_line c.args.host.now c.answer-given.new.host reads w c.args.moment c.date_of.result c.args.bytes.now armed ended before c.answer-given.result c.date_of.ensures ready
+    (listened_line c.args.host.now c.answer-given.new.host reads w c.args.moment c.date_of.ensures.0 c.args.bytes.now armed ended before c.answer-given.result c.date_of.ensures.1 ready
     (c.answer-given.ensures.hears (reads c.args.bytes.now) (reader c.args.bytes.now) before ready.working))
 
 pub returns-clause-works : goal.returns-clause-works

@@ -5,5 +5,5 @@ use Rattle.cap_host_lines.proofs.lines.missing.Goals as goal
 
 pub returns : goal.returns
 returns g c = λ reads w terminal armed ended before ready none.
-    missing_line c.args.host.now reads w c.args.moment c.date_of.result terminal c.args.which armed ended before (record { outcome = O.NoMessage c.args.which; reply = None }) c.date_of.ensures ready none
+    missing_line c.args.host.now reads w c.args.moment c.date_of.ensures.0 terminal c.args.which armed ended before (record { outcome = O.NoMessage c.args.which; reply = None }) c.date_of.ensures.1 ready none
     (c.rest.ensures before ready.working) refl refl

@@ -11,7 +11,7 @@ use Rattle.cap_host_lines.proofs.lines.publish.Goals as goal
 pub returns-clause-acts : goal.returns-clause-acts
 returns-clause-acts g c = λ reads w armed ended before reader ready.
     subst (λ (r : Result HostSaid LineFault). Acted reads c.publish_set-given.new.host w c.args.moment (W.Publish c.args.rows.now) armed ended before r) (sym c.published.ensures)
-    (published_line c.args.host.now c.publish_set-given.new.host reads w c.args.moment c.date_of.result c.args.rows.now armed ended before c.publish_set-given.result c.date_of.ensures ready
+    (published_line c.args.host.now c.publish_set-given.new.host reads w c.args.moment c.date_of.ensures.0 c.args.rows.now armed ended before c.publish_set-given.result c.date_of.ensures.1 ready
     (c.publish_set-given.ensures.publishes before ready.working))
 
 pub returns-clause-works : goal.returns-clause-works

@@ -17,6 +17,8 @@ import termios
 import threading
 import time
 
+import devices
+
 HERE = os.path.dirname(os.path.abspath(__file__))
 TOP = os.path.dirname(HERE)
 PROGRAM = os.path.abspath(sys.argv[1]) if len(sys.argv) > 1 else os.path.join(TOP, "crates", "cap", "out", "cap")
@@ -214,6 +216,11 @@ def reset():
     check("replay of a connection that is reset", (child.returncode, output, error), (4, b"", said(4)))
 
 
+def power():
+    """Each device call of each line of some schedules is cut, and fails, with each fill."""
+    devices.run(lambda given: run(["replay"], given)[1], lambda what, found, wanted: check(what, (0, found), (0, wanted)), SET_UP)
+
+
 def examples():
     """Each example prints what stands beside it."""
     folder = os.path.join(TOP, "examples")
@@ -228,7 +235,7 @@ def examples():
 def main():
     if not os.path.exists(PROGRAM):
         sys.exit(f"tests: {PROGRAM} is not built")
-    for part in schedules, noise, documents, limits, words, made, outside, reset, examples:
+    for part in schedules, power, noise, documents, limits, words, made, outside, reset, examples:
         part()
     print(f"{passed} passed, {failed} failed")
     sys.exit(1 if failed else 0)

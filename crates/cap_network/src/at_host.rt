@@ -89,7 +89,7 @@ impl Network {
     }
 
     /// Opens the host again where it is off, without a line. The one error is want of memory.
-    pub(crate) fn close_host(&mut self) -> Result<(), Memory>
+    pub(crate) fn wake_host(&mut self) -> Result<(), Memory>
         ensures { OnOk result (ReopensSo (⟦<Network as cap_plays::Network>⟧.corresponds self.old) (⟦<Network as cap_plays::Network>⟧.corresponds self.new) End.Host) }
     {
         match &self.host {

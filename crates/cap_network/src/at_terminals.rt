@@ -70,7 +70,7 @@ impl Network {
     }
 
     /// Opens a terminal again where it is off, without a line. The one error is want of memory.
-    pub(crate) fn close_terminal(&mut self, place: u64) -> Result<(), Memory>
+    pub(crate) fn wake_terminal(&mut self, place: u64) -> Result<(), Memory>
         ensures { OnOk result (ReopensSo (⟦<Network as cap_plays::Network>⟧.corresponds self.old) (⟦<Network as cap_plays::Network>⟧.corresponds self.new) (End.Terminal place)) }
     {
         let place = place as usize;

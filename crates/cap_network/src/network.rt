@@ -95,8 +95,8 @@ impl Network {
         ensures { OnOk result (ReopensSo (⟦<Network as cap_plays::Network>⟧.corresponds self.old) (⟦<Network as cap_plays::Network>⟧.corresponds self.new) end) }
     {
         match end {
-            End::Host => self.close_host(),
-            End::Terminal(place) => self.close_terminal(place),
+            End::Host => self.wake_host(),
+            End::Terminal(place) => self.wake_terminal(place),
         }
     }
 }

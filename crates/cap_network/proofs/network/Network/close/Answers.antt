@@ -6,7 +6,7 @@ use Rattle.cap_network.proofs.Doing.{by_end}
 use Rattle.cap_network.proofs.network.Network.close.Goals as goal
 
 pub returns-in-Host : goal.returns-in-Host
-returns-in-Host c = by_end (λ (e : End). OnOk c.close_host.result (ReopensSo (net.corresponds c.args.self.now) (net.corresponds c.close_host.new.self) e)) c.args.end _ c.in-Host.is c.close_host.ensures
+returns-in-Host c = by_end (λ (e : End). OnOk c.wake_host.result (ReopensSo (net.corresponds c.args.self.now) (net.corresponds c.wake_host.new.self) e)) c.args.end _ c.in-Host.is c.wake_host.ensures
 
 pub returns-in-Terminal : goal.returns-in-Terminal
-returns-in-Terminal c = by_end (λ (e : End). OnOk c.close_terminal.result (ReopensSo (net.corresponds c.args.self.now) (net.corresponds c.close_terminal.new.self) e)) c.args.end _ c.in-Terminal.is c.close_terminal.ensures
+returns-in-Terminal c = by_end (λ (e : End). OnOk c.wake_terminal.result (ReopensSo (net.corresponds c.args.self.now) (net.corresponds c.wake_terminal.new.self) e)) c.args.end _ c.in-Terminal.is c.wake_terminal.ensures

@@ -5,7 +5,7 @@ use Rattle.cap_power.specs.contracts.terminal.TerminalDiskJournalTermEntryMemory
 use Rattle.cap_power.specs.contracts.host.HostDiskJournalHostEntryMemoryDiskOverDiskHostEntry.TheImpl.{ghosts as ends}
 use Rattle.cap_terminal_side.specs.declared.side.Side.{Side}
 use Rattle.cap_network.proofs.Terminals as T
-use Rattle.cap_network.proofs.network.Network.close_terminal.Goals as goal
+use Rattle.cap_network.proofs.network.Network.wake_terminal.Goals as goal
 
 only_one : (x y : Side) → Some x ≡ Some y → x ≡ y
 only_one x y e = cc

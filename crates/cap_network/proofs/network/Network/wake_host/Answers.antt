@@ -2,7 +2,7 @@ use Rattle.cap_power.specs.contracts.terminal.TerminalDiskJournalTermEntryMemory
 use Rattle.cap_power.specs.contracts.host.HostDiskJournalHostEntryMemoryDiskOverDiskHostEntry.TheImpl.{ghosts as ends}
 use Rattle.cap_terminal_side.specs.declared.side.Side.{Side}
 use Rattle.cap_network.proofs.Hosts as H
-use Rattle.cap_network.proofs.network.Network.close_host.Goals as goal
+use Rattle.cap_network.proofs.network.Network.wake_host.Goals as goal
 
 pub returns-in_ok-reopen-in-Off : goal.returns-in_ok-reopen-in-Off
 returns-in_ok-reopen-in-Off c =

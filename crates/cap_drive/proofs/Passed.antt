@@ -20,7 +20,7 @@ use Rattle.cap_drive.specs.Frames.{Answered, Task, tried_at, replies_of, bodies_
 use Rattle.cap_drive.specs.Connections.{Ending, At_end, At_take, At_put, At_bad_length, At_disk, At_limit, Shut, Lacks, Lacks_to_put, Connection, last_events, last_moment, is_whole, IsShut, IsServed, IsEmptied}
 use Rattle.cap_drive.specs.Lines.{line_fault, disk_fault}
 use Rattle.cap_drive.specs.Driver.{ComesBack, images_of, faults_of}
-use Rattle.cap_drive.specs.Going.{act_of, moment_of, HasRisen, Tried}
+use Rattle.cap_drive.specs.Going.{act_of, moment_of, HasRisen, StillWorks, Tried}
 use Rattle.cap_drive.specs.Closings.{closing_of, Made, ToDisk, Closes}
 use Rattle.cap_drive.specs.Passing.{end_by, GoesOn, BreaksIn}
 use Rattle.cap_drive.proofs.Pieces.{all_append}
@@ -83,6 +83,23 @@ disk_risen (Shut moment body) a b c d later rose = rose
 disk_risen Lacks a b c d later rose = omega (arith, later)
 disk_risen (Lacks_to_put x part rest) a b c d later rose = omega (arith, later)
 
+pub risen_shut : (closing : Closing) (a b last c d : ℕ) → last ≡ b → HasRisen closing a b c d → HasRisen closing a last c d
+risen_shut closing a b last c d same rose = subst (λ (n : ℕ). HasRisen closing a n c d) (sym same) rose
+
+pub risen_disk : (closing : Closing) (a b c d : ℕ) → closing ≡ Disk → HasRisen closing a b c d → Rose c d
+risen_disk closing a b c d is rose = subst (λ (k : Closing). HasRisen k a b c d) is rose
+
+pub rose_later_so : (a b c : ℕ) → Rose a b → b ≤ c → Rose a c
+rose_later_so a b c rose later = omega (arith, rose, later)
+
+pub still_works : (closing : Closing) (failed : Bool) → (closing ≡ Disk → ⊥) → StillWorks closing failed → failed ≡ false
+still_works End failed no works = works
+still_works Fault failed no works = works
+still_works (BadLength n) failed no works = works
+still_works Disk failed no works = absurd (no refl)
+still_works FrameLimit failed no works = works
+still_works Memory failed no works = works
+
 pub rose_none : (a b : ℕ) → a ≤ b → RoseBy 0 a b
 rose_none a b later = omega (arith, later)
 
@@ -115,6 +132,18 @@ module _ {E : Type 0} (known readable : Bool) (adds : List E → ℕ → List �
   goes_whole has is_allowed images Disk replied old new before after a b c d line disk risen no_disk no_memory x = absurd (no_disk refl)
   goes_whole has is_allowed images FrameLimit replied old new before after a b c d line disk risen no_disk no_memory x = goes_by FrameLimit replied old new before after a b c d line disk risen no_disk no_memory x
   goes_whole has is_allowed images Memory replied old new before after a b c d line disk risen no_disk no_memory x = absurd (no_memory refl)
+
+  -- the link was closed behind it, which changes nothing
+  module _ (has : List ℕ → List E → Type 0) (is_allowed : List E → Type 0) (images : List ℕ → Type 0) (closing : Closing) (replied : ℕ) (old new : List E) (before after last : Lines) (same : last ≡ after)
+      (x : Closes known readable adds replies told tells has is_allowed closing images old new before after replied) where
+    pub closes_shut : Closes known readable adds replies told tells has is_allowed closing images old new before last replied
+    closes_shut = subst (λ (l : Lines). Closes known readable adds replies told tells has is_allowed closing images old new before l replied) (sym same) x
+
+    pub at_disk : closing ≡ Disk → ToDisk known readable adds replies told tells has is_allowed images old before last replied
+    at_disk is = subst (λ (k : Closing). Closes known readable adds replies told tells has is_allowed k images old new before last replied) is closes_shut
+
+    pub at_memory : closing ≡ Memory → (c : Connection) × (closing_of c.ending ≡ Memory) × Made known readable adds replies told tells c old (working new) before last replied
+    at_memory is = subst (λ (k : Closing). Closes known readable adds replies told tells has is_allowed k images old new before last replied) is closes_shut
 
   module _ (has : List ℕ → List E → Type 0) (is_allowed : List E → Type 0) (images : List ℕ → Type 0) (old : List E) (before after : Lines) (replied : ℕ)
       (x : ToDisk known readable adds replies told tells has is_allowed images old before after replied) where

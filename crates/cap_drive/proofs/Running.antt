@@ -108,6 +108,24 @@ module _ {E : Type 0} (known readable : Bool) (adds : List E → ℕ → List �
     disks = omega arith;
   }
 
+  -- what became of the link meanwhile, where no connection was opened
+  pub running_still : (first : ℕ) (start now : List E) (before after last : Lines) (old new : Option (List ℕ)) (line_before line_after line_last disk_before disk_after count : ℕ) → (IsTrue link_tells → last ≡ after) → line_last ≡ line_after
+      → Running first start now before after old new line_before line_after disk_before disk_after count → Running first start now before last old new line_before line_last disk_before disk_after count
+  running_still first start now before after last old new line_before line_after line_last disk_before disk_after count same line x = record {
+    served = x.served;
+    run = record {
+      steps = x.run.steps;
+      each = x.run.each;
+      moments = x.run.moments;
+      talks = λ can. subst (λ (v : Lines). Talks before x.served v) (sym (same can)) (x.run.talks can);
+    };
+    many = x.many;
+    whole = x.whole;
+    text = x.text;
+    faults = subst (λ (n : ℕ). RoseBy (line_faults x.served) line_before n) (sym line) x.faults;
+    disks = x.disks;
+  }
+
   -- no more connection is opened
   module _ (first connections count : ℕ) (start now : List E) (before after : Lines) (old new : Option (List ℕ)) (line_before line_after disk_before disk_after : ℕ)
       (x : Running first start now before after old new line_before line_after disk_before disk_after count) where

@@ -4,3 +4,4 @@ pub mod Pieces
 pub mod Closed
 pub mod Passed
 pub mod Running
+pub mod Texts

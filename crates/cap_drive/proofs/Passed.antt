@@ -93,12 +93,12 @@ pub rose_later_so : (a b c : ℕ) → Rose a b → b ≤ c → Rose a c
 rose_later_so a b c rose later = omega (arith, rose, later)
 
 pub still_works : (closing : Closing) (failed : Bool) → (closing ≡ Disk → ⊥) → StillWorks closing failed → failed ≡ false
-still_works End failed no works = works
-still_works Fault failed no works = works
-still_works (BadLength n) failed no works = works
-still_works Disk failed no works = absurd (no refl)
-still_works FrameLimit failed no works = works
-still_works Memory failed no works = works
+still_works End failed other works = works
+still_works Fault failed other works = works
+still_works (BadLength n) failed other works = works
+still_works Disk failed other works = absurd (other refl)
+still_works FrameLimit failed other works = works
+still_works Memory failed other works = works
 
 pub rose_none : (a b : ℕ) → a ≤ b → RoseBy 0 a b
 rose_none a b later = omega (arith, later)

@@ -9,7 +9,7 @@ use Rattle.cap_drive.proofs.connection.serve_connection.Goals as goal
 
 pub returns-in_default-clause-closes : goal.returns-in_default-clause-closes
 returns-in_default-clause-closes g c =
-    closed_lacking _ _ _ _ _ _ _ _ _ [] _ _ _ c.args.tally.now c.args.tally.now c.requires.new c.requires.none [] _ _
+    closed_lacking _ _ _ _ _ _ g.A.Answering.has g.A.Answering.is_allowed (g.A.Answering.may_leave c.args.host.now) [] _ _ _ c.args.tally.now c.args.tally.now c.requires.new c.requires.none [] _ _
     (going_nothing _ _ _ _ _ _ [] [] [] [] _ _ _ c.args.tally.now refl (λ told. nothing _ (g.met.L.Link.shows_open c.args.link.now told c.requires.open)))
     (begun_none [] refl) (omega (arith, c.requires.new)) (λ told. nothing _ (g.met.L.Link.shows_open c.args.link.now told c.requires.open))
 
@@ -33,7 +33,7 @@ takes-init g c = record {
 pub returns-in_default-take-clause-closes : goal.returns-in_default-take-clause-closes
 returns-in_default-take-clause-closes g c =
     let inv = c.takes.invariant in
-    closed_take _ _ _ _ _ _ _ _ _ inv.served.0 _ _ _ c.args.tally.now _ c.requires.new c.requires.none c.takes.framer (g.L.Link.lines c.takes.link) _ inv.served.2 inv.begun inv.few
+    closed_take _ _ _ _ _ _ g.A.Answering.has g.A.Answering.is_allowed (g.A.Answering.may_leave c.takes.host) inv.served.0 _ _ _ c.args.tally.now _ c.requires.new c.requires.none c.takes.framer (g.L.Link.lines c.takes.link) _ inv.served.2 inv.begun inv.few
     (λ told. subst (λ (l : Lines). Exchanges [] [] (g.L.Link.lines c.takes.link) l) (sym (c.in_default-take.ensures.stays (inv.tells ∙ told)))
     (nothing _ (g.met.L.Link.shows_open c.takes.link (inv.tells ∙ told) inv.open_now)))
 
@@ -41,7 +41,7 @@ pub returns-then-count-eq0-clause-closes : goal.returns-then-count-eq0-clause-cl
 returns-then-count-eq0-clause-closes g c =
     let inv = c.takes.invariant in
     let none = λ (told : IsTrue (g.L.Link.tells c.args.link.now)). subst (λ n. Exchanges (take n c.take.new.buf) [] (g.L.Link.lines c.takes.link) (g.L.Link.lines c.take.new.self)) c.if-count-eq0.true (c.in-Ok-take.ensures.bytes (inv.tells ∙ told)) in
-    closed_end _ _ _ _ _ _ _ _ _ inv.served.0 _ _ _ c.args.tally.now _ c.requires.new c.requires.none c.takes.framer (g.L.Link.lines c.takes.link) (g.L.Link.lines c.take.new.self) inv.served.2 inv.begun inv.few none
+    closed_end _ _ _ _ _ _ g.A.Answering.has g.A.Answering.is_allowed (g.A.Answering.may_leave c.takes.host) inv.served.0 _ _ _ c.args.tally.now _ c.requires.new c.requires.none c.takes.framer (g.L.Link.lines c.takes.link) (g.L.Link.lines c.take.new.self) inv.served.2 inv.begun inv.few none
     (λ told. none_left (g.L.Link.lines c.takes.link) (g.L.Link.lines c.take.new.self) (none told) ((c.in-Ok-take.ensures.end (inv.tells ∙ told)).0 c.if-count-eq0.true))
 
 pub returns-in-Err-clause-closes : goal.returns-in-Err-clause-closes
@@ -84,8 +84,8 @@ takes-preserved g c =
       port = e.port ∙ (c.in-Ok-take.ensures.port ∙ inv.port);
     }
 
-pub prove-unreachable-requires : goal.prove-unreachable-requires
-prove-unreachable-requires g c =
+pub unreachable-requires : goal.unreachable-requires
+unreachable-requires g c =
     let inv = c.takes.invariant in
     let x = inv.served.2 in
     too_many inv.served.0 c.takes.framer (bodies_of x.answered) (length x.answered) x.joined x.sizes (length-map x.answered (λ (a : Answered). a.body)) (omega (arith, x.frames, c.requires.new, inv.few)) inv.begun.small (omega (arith, inv.served.1))

@@ -1,5 +1,6 @@
-use Rattle.std.proofs.Common.{◌≡◌, ◌⊎◌, inl, inr, ◌<◌, ◌≤◌, ◌++◌, ℕ, List, [], take, drop, refl, sym, ap, ◌∙◌, IsTrue, arith}
+use Rattle.std.proofs.Common.{◌≡◌, ◌⊎◌, inl, inr, ◌<◌, ◌≤◌, ◌++◌, ℕ, List, [], take, drop, refl, sym, ap, subst, ◌∙◌, IsTrue, arith}
 use Rattle.std.proofs.lemmas.Bool.{false≢true}
+use Rattle.cap_frame.specs.Frame.{IsWhole}
 use Rattle.cap_link.specs.Lines.{nothing}
 use Rattle.cap_drive.proofs.Begun.{begun_none, begun_fed, stated_of_fed}
 use Rattle.cap_drive.proofs.Pieces.{going_nothing, going_frame, goes_all, stops_here, some_taken, at_none, at_some, zero_or}
@@ -28,7 +29,7 @@ returns-in_default-clause-ok g c =
 pub returns-in_default-clause-begun : goal.returns-in_default-clause-begun
 returns-in_default-clause-begun g c =
     let same = at_none c.next.result _ _ c.in_default.is c.next.follows.holds-at-none in
-    begun_fed (c.args.framer.now ++ c.args.bytes.now) c.next.follows.lender-at-none (same ∙ c.feed.ensures.held) (λ bad. false≢true (c.in-Ok.ensures.bad.1 bad)) ?
+    begun_fed (c.args.framer.now ++ c.args.bytes.now) c.next.follows.lender-at-none (same ∙ c.feed.ensures.held) (λ bad. false≢true (c.in-Ok.ensures.bad.1 bad)) (λ whole. false≢true (c.in_default.ensures.waits.1 (subst IsWhole same whole)))
 
 pub returns-in-Err-serve_frame-clause-err : goal.returns-in-Err-serve_frame-clause-err
 returns-in-Err-serve_frame-clause-err g c =

@@ -11,15 +11,6 @@ use Rattle.cap_drive.specs.Frames.{Answered, Task, task_of, reply_bytes, IsTold,
 use Rattle.cap_drive.specs.Connections.{Ending, At_put, Lacks, Lacks_to_put}
 use Rattle.cap_drive.specs.Going.{act_of, ServesFrame, Cuts, FrameBreaks}
 
-pub fits_body : (r : Reply) (text : List ℕ) → r ≡ Bytes text → FitsFrame r → IsBody text
-fits_body r text is fits =
-    let f : FitsFrame (Bytes text) = subst FitsFrame is fits in
-    record { some = omega (arith, f.0); fits = f.1 }
-
-pub few_replies : (r : Reply) → length (reply_bytes r) ≤ 1
-few_replies (Bytes text) = omega arith
-few_replies Silent = omega arith
-
 -- a front of these bytes was put, also where the link tells nothing
 pub part_of : (tells : Bool) (bytes : List ℕ) (before after : Lines) → (IsTrue tells → PutsSome bytes before after)
     → (part : List ℕ) × (rest : List ℕ) × (part ++ rest ≡ bytes) × (IsTrue tells → Exchanges [] part before after)

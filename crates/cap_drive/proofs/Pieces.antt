@@ -95,14 +95,6 @@ module _ {E : Type 0} (known readable : Bool) (adds : List E → ℕ → List �
       subst (λ (l : List ℕ). Goes known readable adds replies told tells t l held old before tally (next ++ drop n bytes) new after tallied) (take-append-drop n bytes)
       (goes_rest t (take n bytes) (drop n bytes) held next old new before after tally tallied x)
 
-  -- all bytes were read
-  pub goes_to : (t first rest bytes held next : List ℕ) (old new : List E) (before after : Lines) (tally tallied : Tally) → first ++ rest ≡ bytes → rest ≡ []
-      → Goes known readable adds replies told tells t first held old before tally next new after tallied
-      → Goes known readable adds replies told tells t bytes held old before tally next new after tallied
-  goes_to t first rest bytes held next old new before after tally tallied is none x =
-      subst (λ (l : List ℕ). Goes known readable adds replies told tells t l held old before tally next new after tallied)
-      (sym (append-nil first) ∙ (ap (λ (l : List ℕ). first ++ l) (sym none) ∙ is)) x
-
   pub goes_more : (t s first second held mid next : List ℕ) (old between new : List E) (before middle after : Lines) (tally tallied last : Tally)
       → Goes known readable adds replies told tells t first held old before tally mid between middle tallied
       → Goes known readable adds replies told tells s second mid between middle tallied next new after last
@@ -231,7 +223,3 @@ at_some r x A B e h = subst (λ q. MatchOption q A (λ _. B)) e h
 pub zero_or : (n : ℕ) → (n ≡ 0) ⊎ (0 < n)
 zero_or zero = inl refl
 zero_or (suc n) = inr (omega arith)
-
-pub none_of : (l : List ℕ) → length l ≡ 0 → l ≡ []
-none_of [] is = refl
-none_of (x ∷ l) is = absurd (omega (arith, is))

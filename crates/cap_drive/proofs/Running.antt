@@ -97,17 +97,6 @@ module _ {E : Type 0} (known readable : Bool) (adds : List E → ℕ → List �
     pub faults : RoseBy (line_faults served) line_before line_after
     pub disks : RoseBy (disk_faults served) disk_before disk_after
 
-  pub starts : (first : ℕ) (start : List E) (before : Lines) (old : Option (List ℕ)) (line disk : ℕ) → Running first start start before before old old line line disk disk 0
-  starts first start before old line disk = record {
-    served = [];
-    run = record { steps = refl; each = tt; moments = tt; talks = λ _. refl };
-    many = refl;
-    whole = tt;
-    text = appends_nothing old;
-    faults = omega arith;
-    disks = omega arith;
-  }
-
   -- what became of the link meanwhile, where no connection was opened
   pub running_still : (first : ℕ) (start now : List E) (before after last : Lines) (old new : Option (List ℕ)) (line_before line_after line_last disk_before disk_after count : ℕ) → (IsTrue link_tells → last ≡ after) → line_last ≡ line_after
       → Running first start now before after old new line_before line_after disk_before disk_after count → Running first start now before last old new line_before line_last disk_before disk_after count
@@ -125,35 +114,6 @@ module _ {E : Type 0} (known readable : Bool) (adds : List E → ℕ → List �
     faults = subst (λ (n : ℕ). RoseBy (line_faults x.served) line_before n) (sym line) x.faults;
     disks = x.disks;
   }
-
-  -- no more connection is opened
-  module _ (first connections count : ℕ) (start now : List E) (before after : Lines) (old new : Option (List ℕ)) (line_before line_after disk_before disk_after : ℕ)
-      (x : Running first start now before after old new line_before line_after disk_before disk_after count) where
-    pub serves_done : count ≤ connections → (count ≡ connections) ⊎ ((count < connections) × (IsTrue link_tells → after.waiting ≡ []))
-        → Serves known readable adds replies told link_tells Done first connections start x.served (working now) before after old new line_before line_after disk_before disk_after
-    serves_done le opened = record {
-      run = x.run;
-      few = omega (arith, x.many, le);
-      opened = subst (λ (n : ℕ). (n ≡ connections) ⊎ ((n < connections) × (IsTrue link_tells → after.waiting ≡ []))) (sym x.many) opened;
-      ends = x.whole;
-      text = x.text;
-      faults = x.faults;
-      disks = x.disks;
-      twice = λ can reads e. absurd (cc e);
-    }
-
-    pub serves_port : count < connections
-        → Serves known readable adds replies told link_tells Port first connections start x.served (working now) before after old new line_before line_after disk_before disk_after
-    serves_port lt = record {
-      run = x.run;
-      few = omega (arith, x.many, lt);
-      opened = omega (arith, x.many, lt);
-      ends = x.whole;
-      text = x.text;
-      faults = x.faults;
-      disks = x.disks;
-      twice = λ can reads e. absurd (cc e);
-    }
 
   -- one more connection
   module _ (first connections count : ℕ) (start now : List E) (before middle opened after : Lines) (old new : Option (List ℕ)) (line_before line_middle line_after disk_before disk_middle disk_after : ℕ)

@@ -4,3 +4,6 @@ pub mod Connections
 pub mod Composing
 pub mod Lines
 pub mod Driver
+pub mod Going
+pub mod Closings
+pub mod Passing

@@ -14,15 +14,6 @@ use Rattle.cap_host_answers.specs.Answer.{Answered, fitting, agree_so_far, item_
 use Rattle.cap_host_answers.specs.Plain.{is_closed_there, batch_taken}
 use Rattle.cap_host_answers.specs.Standing.{same_is_there}
 
--- what is taken fits
-pub fitting_fits : (log items : List Item) → all_fit log (fitting log items) ≡ true
-fitting_fits log [] = refl
-fitting_fits log (item ∷ items) = split (fits log item) refl (fitting_fits (log ++ item ∷ []) items)
-  where
-    split : (b : Bool) → fits log item ≡ b → all_fit (log ++ item ∷ []) (fitting (log ++ item ∷ []) items) ≡ true → all_fit log (cond b (item ∷ fitting (log ++ item ∷ []) items) []) ≡ true
-    split true is rest = and_from (fits log item) _ is rest
-    split false is rest = refl
-
 -- two lists that are compared as far as both go: no further than the shorter
 pub agree_front : (others items : List Item) → agree_so_far others (take (length others) items) ≡ agree_so_far others items
 agree_front [] items = refl

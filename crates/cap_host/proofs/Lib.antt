@@ -8,3 +8,4 @@ mod Closing
 mod Openings
 mod Tabled
 mod Lines
+mod Answerings

@@ -16,15 +16,11 @@ use Rattle.cap_entries.specs.HostSummaryLaws.{log-push}
 use Rattle.cap_entries.specs.HostAllowed.{host_allowed, all_host_allowed, is_legal_host, LegalHost}
 use Rattle.cap_entries.specs.HostAllowedLaws.{all_host_allowed-append}
 use Rattle.cap_entries.specs.LogsFit.{logs_fit}
+use Rattle.cap_host_answers.specs.StaysLegal.{legal_all, legal_grown, same_setup, all_took_allowed}
 use Rattle.cap_host_index.specs.Noted.{IsIndex}
 use Rattle.cap_host_index.specs.NotedLaws.{index_kept, index_kept_all}
 use Rattle.cap_host_index.specs.declared.index.LogIndex.{LogIndex}
 use Rattle.cap_host.specs.Ties.{HostTies}
-
--- the entries of a legal journal are allowed one after another
-legal_all : (entries : List HostEntry) → LegalHost entries → all_host_allowed [] entries ≡ true
-legal_all [] e = absurd (false≢true e)
-legal_all (entry ∷ entries) e = e
 
 -- what stands at a place of a list in which one element was replaced
 pub get_replaced : {X : Type 0} (xs : List X) (i : ℕ) (y : X) (j : ℕ) (x : X) → slice_get (slice_set xs i y) j ≡ Some x → ((i ≡ j) × (x ≡ y)) ⊎ ((i ≡ j → ⊥) × (slice_get xs j ≡ Some x))
@@ -57,19 +53,9 @@ ties_swapped entries settings sets logs place y ties index =
           (get_replaced logs place y terminal x at);
     }
 
-is_some_entry : (entries : List HostEntry) → LegalHost entries → (more : List HostEntry) → setup_of (entries ++ more) ≡ setup_of entries
-is_some_entry [] legal more = absurd (false≢true legal)
-is_some_entry (Setup settings ∷ entries) legal more = refl
-is_some_entry (Took place item ∷ entries) legal more = refl
-is_some_entry (Published version rows ∷ entries) legal more = refl
-
 pub legal_from_all : (entries : List HostEntry) (entry : HostEntry) → all_host_allowed [] (entries ++ entry ∷ []) ≡ true → LegalHost (entries ++ entry ∷ [])
 legal_from_all [] entry ok = ok
 legal_from_all (first ∷ entries) entry ok = ok
-
-legal_grown : (entries : List HostEntry) (more : List HostEntry) → LegalHost entries → all_host_allowed [] (entries ++ more) ≡ true → LegalHost (entries ++ more)
-legal_grown [] more legal ok = absurd (false≢true legal)
-legal_grown (first ∷ entries) more legal ok = ok
 
 pub published-append : (es fs : List HostEntry) → published (es ++ fs) ≡ published es ++ published fs
 published-append [] fs = refl
@@ -81,24 +67,6 @@ none_published : (place : ℕ) (items : List Item) → published (map (Took plac
 none_published place [] = refl
 none_published place (item ∷ items) = none_published place items
 
--- an item that fits is allowed
-took_allowed : (entries : List HostEntry) (place : ℕ) (item : Item) → LegalHost entries → place < length (setup_of entries).terminals → fits (log entries place) item ≡ true → host_allowed entries (Took place item) ≡ true
-took_allowed [] place item legal within ok = absurd (false≢true legal)
-took_allowed (first ∷ entries) place item legal within ok = and_from (nat_lt place (length (setup_of (first ∷ entries)).terminals)) (fits (log (first ∷ entries) place) item) (lt-ltb place (length (setup_of (first ∷ entries)).terminals) within) ok
-
-log_one : (entries : List HostEntry) (place : ℕ) (item : Item) → log (entries ++ Took place item ∷ []) place ≡ log entries place ++ item ∷ []
-log_one entries place item = log-push entries (Took place item) place ∙ ap (λ l. log entries place ++ l) (cond-true (place == place) _ _ (eq-eqb place place refl))
-
--- items that fit one after another are allowed one after another
-all_took_allowed : (entries : List HostEntry) (place : ℕ) (items : List Item) → LegalHost entries → place < length (setup_of entries).terminals → all_fit (log entries place) items ≡ true → all_host_allowed entries (map (Took place) items) ≡ true
-all_took_allowed entries place [] legal within fit = refl
-all_took_allowed entries place (item ∷ items) legal within fit =
-    let parts = and_parts (fits (log entries place) item) (all_fit (log entries place ++ item ∷ []) items) fit in
-    let here = took_allowed entries place item legal within parts.0 in
-    let next : LegalHost (entries ++ Took place item ∷ []) = legal_grown entries (Took place item ∷ []) legal (all_host_allowed-append [] entries (Took place item ∷ []) (legal_all entries legal) (and_from _ _ here refl)) in
-    and_from (host_allowed entries (Took place item)) (all_host_allowed (entries ++ Took place item ∷ []) (map (Took place) items)) here
-    (all_took_allowed (entries ++ Took place item ∷ []) place items next (subst (λ (s : HostSettings). place < length s.terminals) (sym (is_some_entry entries legal (Took place item ∷ []))) within) (ap (λ l. all_fit l items) (log_one entries place item) ∙ parts.1))
-
 -- items of one terminal were taken, and its index has them
 pub ties_took : (entries : List HostEntry) (settings : HostSettings) (sets : List (List Row)) (logs : List LogIndex) (place : ℕ) (items : List Item) (y : LogIndex) → HostTies entries settings sets logs
     → place < length settings.terminals → all_fit (log entries place) items ≡ true → IsIndex (entries ++ map (Took place) items) place y → HostTies (entries ++ map (Took place) items) settings sets (slice_set logs place y)
@@ -106,7 +74,7 @@ ties_took entries settings sets logs place items y ties within fit index =
     let inside : place < length (setup_of entries).terminals = subst (λ (s : HostSettings). place < length s.terminals) ties.set_up within in
     record {
       legal = legal_grown entries (map (Took place) items) ties.legal (all_host_allowed-append [] entries (map (Took place) items) (legal_all entries ties.legal) (all_took_allowed entries place items ties.legal inside fit));
-      set_up = ties.set_up ∙ sym (is_some_entry entries ties.legal (map (Took place) items));
+      set_up = ties.set_up ∙ sym (same_setup entries ties.legal (map (Took place) items));
       sets_are = ties.sets_are ∙ sym (published-append entries (map (Took place) items) ∙ (ap (λ (l : List (List Row)). published entries ++ l) (none_published place items) ∙ append-nil (published entries)));
       logs_are = λ terminal x at.
           ⊎_elim
@@ -133,7 +101,7 @@ ties_published entries settings sets logs rows ties few =
     let entry = Published (length sets + 1) rows in
     record {
       legal = legal_grown entries (entry ∷ []) ties.legal (all_host_allowed-append [] entries (entry ∷ []) (legal_all entries ties.legal) (and_from _ _ (ap (λ k. host_allowed entries (Published (k + 1) rows)) many ∙ published_allowed entries rows ties.legal (omega (arith, few, many))) refl));
-      set_up = ties.set_up ∙ sym (is_some_entry entries ties.legal (entry ∷ []));
+      set_up = ties.set_up ∙ sym (same_setup entries ties.legal (entry ∷ []));
       sets_are = ap (λ (l : List (List Row)). l ++ rows ∷ []) ties.sets_are ∙ sym (published-append entries (entry ∷ []));
       logs_are = λ terminal x at. index_kept entries entry terminal x refl (ties.logs_are terminal x at);
     }

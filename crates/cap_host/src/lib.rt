@@ -4,6 +4,7 @@
 mod adding;
 mod advices;
 mod answer;
+mod answering;
 mod batches;
 mod capture;
 mod deciding;

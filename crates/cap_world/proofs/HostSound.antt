@@ -20,6 +20,7 @@ use Rattle.cap_entries.specs.Log.{log, published, setup_of}
 use Rattle.cap_entries.specs.Fronts.{IsPrefixOf, prefix_refl}
 use Rattle.cap_manager.specs.Manager.{answer_status}
 use Rattle.cap_host_answers.specs.Answer.{Answered, is_approved, answer_request, answer_of_item, item_at, same_item, is_unexpected, answer_advice, agree_so_far, fitting, fresh_items, taken_items, answer_batch, answer_data, answer_report, answer_of}
+use Rattle.cap_host_answers.specs.StaysLegal.{fitting_fits}
 use Rattle.cap_world.proofs.Sound.{StandsAt, ReportOk, SentOk}
 
 -- two splits of a list at the same place
@@ -45,11 +46,6 @@ fitting_front log [] = prefix_refl []
 fitting_front log (item ∷ items) =
     let rest = fitting_front (log ++ item ∷ []) items in
     cond_both (fits log item) _ _ (λ l. IsPrefixOf l (item ∷ items)) (λ _. (rest.0, ap (λ l. item ∷ l) rest.1)) (λ _. (item ∷ items, refl))
-
-pub fitting_fits : (log items : List Item) → all_fit log (fitting log items) ≡ true
-fitting_fits log [] = refl
-fitting_fits log (item ∷ items) =
-    cond_both (fits log item) _ _ (λ l. all_fit log l ≡ true) (λ e. and_from _ _ e (fitting_fits (log ++ item ∷ []) items)) (λ _. refl)
 
 -- entries of one terminal, in the log of each
 pub log-took : (place : ℕ) (items : List Item) → log (map (Took place) items) place ≡ items

@@ -13,16 +13,15 @@ use Rattle.cap_entries.specs.declared.host.HostEntry.TheVariants.{Setup as Host_
 use Rattle.cap_entries.specs.Items.{items as items_of}
 use Rattle.cap_entries.specs.Allowed.{all_allowed, is_legal}
 use Rattle.cap_entries.specs.Log.{log, published, setup_of}
-use Rattle.cap_entries.specs.HostAllowed.{host_allowed_after, host_allowed, all_host_allowed, is_legal_host}
+use Rattle.cap_entries.specs.HostAllowed.{host_allowed_after, host_allowed, all_host_allowed, is_legal_host, LegalHost}
 use Rattle.cap_entries.specs.LogLaws.{log-append}
 use Rattle.cap_entries.specs.AllowedLaws.{all_allowed_front}
 use Rattle.cap_entries.specs.HostAllowedLaws.{all_host_allowed-append, all_host_allowed_front}
-use Rattle.cap_host_answers.specs.Answer.{Answered}
+use Rattle.cap_host_answers.specs.StaysLegal.{answer_allowed}
+use Rattle.cap_msgs.specs.Received.{Read}
 use Rattle.cap_answering.specs.Steps.{Event, Acts, Interrupted, Restart, Interrupted_restart}
 use Rattle.cap_world.specs.World.{TerminalState, World, HostAction, Answers, Answers_foreign, Publishes, HostDoes, delivered, HostStep, Happening, At_terminal, At_host, Step, started, first, Run}
-use Rattle.cap_world.proofs.HostSound.{answer_sound, log-took}
-use Rattle.cap_world.proofs.Parties.{foreign_is_rejected}
-use Rattle.cap_world.proofs.Steps.{Invariant, step_sound, first_sound, sent_ok, answered_is, setup_settled, front_settled}
+use Rattle.cap_world.proofs.Steps.{Invariant, step_sound, first_sound}
 use Rattle.cap_world.proofs.Lawful.{SetUp, setup_more, lawful_run}
 use Rattle.cap_world.specs.LegalJournals.{EveryTerminalJournalIsLegal, EveryHostJournalIsLegal}
 
@@ -41,21 +40,6 @@ host_allowed_from entries count entry u e =
     let P : List HostEntry → Type 0 = λ l. host_allowed_after l entry ≡ true → host_allowed l entry ≡ true in
     subst P (sym u.is) (λ h. h) e
 
-setup_count : (entries : List HostEntry) (count : ℕ) → HostSetUpFirst entries count → length (setup_of entries).terminals ≡ count
-setup_count entries count u = ap (λ l. length (setup_of l).terminals) u.is ∙ u.terminals
-
--- items that fit one after another may be taken one after another
-took_allowed : (entries : List HostEntry) (count place : ℕ) (items : List Item) → HostSetUpFirst entries count → place < count → all_fit (log entries place) items ≡ true → all_host_allowed entries (map (Took place) items) ≡ true
-took_allowed entries count place [] u lt fit = refl
-took_allowed entries count place (item ∷ items) u lt fit =
-    let parts = and_parts (fits (log entries place) item) (all_fit (log entries place ++ item ∷ []) items) fit in
-    let within : place < length (setup_of entries).terminals = omega (arith, setup_count entries count u) in
-    let next : log (entries ++ Took place item ∷ []) place ≡ log entries place ++ item ∷ [] =
-    log-append entries (Took place item ∷ []) place ∙ ap (λ l. log entries place ++ l) (log-took place (item ∷ [])) in
-    and_from _ _ (host_allowed_from entries count (Took place item) u (and_from _ _ (lt-ltb place (length (setup_of entries).terminals) within) parts.0))
-    (took_allowed (entries ++ Took place item ∷ []) count place items (setup_first_more entries (Took place item ∷ []) count u) lt
-    (subst (λ l. all_fit l items ≡ true) (sym next) parts.1))
-
 length-delivered : (terminals : List TerminalState) (receiver : ℕ) (messages : List Message) → length (delivered terminals receiver messages) ≡ length terminals
 length-delivered [] receiver messages = refl
 length-delivered (s ∷ terminals) zero messages = refl
@@ -66,16 +50,19 @@ record HostLawful (host : HostSettings) (all : List TerminalSettings) (w : World
   legal : all_host_allowed [] (w.host.settled ++ w.host.tried) ≡ true
   setup : HostSetUpFirst w.host.settled (length w.terminals)
 
+host_legal_from : (entries : List HostEntry) (count : ℕ) → HostSetUpFirst entries count → all_host_allowed [] entries ≡ true → is_legal_host entries ≡ true
+host_legal_from entries count u e =
+    let P : List HostEntry → Type 0 = λ l. all_host_allowed [] l ≡ true → is_legal_host l ≡ true in
+    subst P (sym u.is) (λ h. h) e
+
+settled_legal : (host : HostSettings) (all : List TerminalSettings) (w : World) → HostLawful host all w → LegalHost w.host.settled
+settled_legal host all w l = host_legal_from w.host.settled (length w.terminals) l.setup (all_host_allowed_front [] w.host.settled w.host.tried l.legal)
+
 host_does_legal : (host : HostSettings) (all : List TerminalSettings) (w : World) → HostLawful host all w → (action : HostAction) (added : List HostEntry) (receiver : ℕ) (replies : List Message) → HostDoes w action added receiver replies → all_host_allowed w.host.settled added ≡ true
 host_does_legal host all w l (Answers terminal which moment) added receiver replies (s, message, at, sent, is, to, back) =
-    let ok = sent_ok host all w l.inv terminal s which message at sent in
-    let answered = answer_sound w.host.settled terminal (items_of s.settled) message (front_settled host all w l.inv terminal s at) ok in
-    let same = answered_is host all w l.inv w.host.settled (setup_settled host all w l.inv) terminal s which message at sent in
-    let e : added ≡ map (Took terminal) answered.new = is ∙ (ap (λ (a : Answered). a.added) same ∙ answered.added) in
-    rw e (took_allowed w.host.settled (length w.terminals) terminal answered.new l.setup (slice_get_within w.terminals terminal s at) answered.fit)
+    rw is (answer_allowed w.host.settled (Read message) (settled_legal host all w l))
 host_does_legal host all w l (Answers_foreign received moment) added receiver replies (foreign, is, to, back) =
-    let none : added ≡ [] = is ∙ (foreign_is_rejected w.host.settled received foreign).added in
-    rw none refl
+    rw is (answer_allowed w.host.settled received (settled_legal host all w l))
 host_does_legal host all w l (Publishes rows) added receiver replies (lt, is, none) =
     let n = length (published w.host.settled) in
     rw is (and_from _ _ (host_allowed_from w.host.settled (length w.terminals) (Published (n + 1) rows) l.setup (and_from _ _ (eq-eqb (n + 1) (n + 1) refl) (le-leb (n + 1) 10000 (omega (arith, lt))))) refl)
@@ -120,11 +107,6 @@ step_host_lawful host all w new (At_terminal place event) l (before, after, at, 
 run_host_lawful : (host : HostSettings) (all : List TerminalSettings) (w new : World) (happenings : List Happening) → HostLawful host all w → Run w happenings new → HostLawful host all new
 run_host_lawful host all w new [] l is = subst (HostLawful host all) (sym is) l
 run_host_lawful host all w new (happening ∷ happenings) l (next, step, run) = run_host_lawful host all next new happenings (step_host_lawful host all w next happening l step) run
-
-host_legal_from : (entries : List HostEntry) (count : ℕ) → HostSetUpFirst entries count → all_host_allowed [] entries ≡ true → is_legal_host entries ≡ true
-host_legal_from entries count u e =
-    let P : List HostEntry → Type 0 = λ l. all_host_allowed [] l ≡ true → is_legal_host l ≡ true in
-    subst P (sym u.is) (λ h. h) e
 
 pub every_host_journal_is_legal : EveryHostJournalIsLegal
 every_host_journal_is_legal host all happenings w match run others (held, are) =

@@ -1,6 +1,6 @@
 use Rattle.std.proofs.Common.{◌∙◌, ap, []}
 use Rattle.cap_base.specs.Fits.{all_fit}
-use Rattle.cap_host_answers.proofs.Legal.{legal_all}
+use Rattle.cap_host_answers.specs.StaysLegal.{legal_all}
 use Rattle.cap_host_answers.proofs.plain.own_log.Goals as goal
 
 pub returns-clause-fit : goal.returns-clause-fit

@@ -61,7 +61,10 @@ fn served(
     let (end, opened, back) = serve_any(alloc, host, &mut link, &mut clock, &mut out, most, first);
     let back = if back.is_ok() { "on" } else { "shut" };
     let puts = puts(alloc, &link, count)?;
-    format!(in alloc; "{end:?}, opened {opened}, {back},{puts}\n{}", text_of(out.bytes()))
+    format!(in alloc;
+        "{end:?}, opened {opened}, {back},{puts}\n{}",
+        text_of(out.bytes())
+    )
 }
 
 /// `MOST FIRST OPENINGS FAILING CONNECTION ..`: at most so many connections, numbered from the first, an end that can be opened again so many times, the calls of the

@@ -49,7 +49,9 @@ fn answer(alloc: Global, verb: &str, words: &str) -> Result<String, Memory> {
         "set" | "many" | "floor" | "setup" | "names" | "blocks" => set(alloc, verb, words),
         "terminal" | "host" | "record" | "read" => journal(alloc, verb, words),
         "offline" | "authorise" | "knows" => sale(alloc, verb, words),
-        "file" | "samples" | "open" | "init" | "fault" | "ends" | "appends" => file(alloc, verb, words),
+        "file" | "samples" | "open" | "init" | "fault" | "ends" | "appends" => file(
+            alloc, verb, words,
+        ),
         _ => text(alloc, "no such case"),
     }
 }

@@ -128,7 +128,7 @@ answer_allowed entries (Read message) legal =
     cond_both (is_unanswered (report_of message.body)) _ _ P (λ _. refl)
     (λ _. cond_both (is_from_host (report_of message.body)) _ _ P (λ _. refl)
     (λ _. cond_both (bytes_eq message.header.to (setup_of entries).host) _ _ P
-    (λ _. from_place entries (place_of entries message.header.from) message.header.exchange message.body legal (λ p is. place_within 0 (setup_of entries).terminals message.header.from p is))
+    (λ _. from_place entries (place_of entries message.header.from) message.header.exchange message.body legal (λ p is. let lt = place_within 0 (setup_of entries).terminals message.header.from p is in omega (arith, lt)))
     (λ _. refl)))
 
 -- each front of what is allowed leaves legal entries legal

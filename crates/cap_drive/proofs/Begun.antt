@@ -1,9 +1,9 @@
 -- What a framer holds between two frames.
-use Rattle.std.proofs.Common.{◌≡◌, ◌⊎◌, inl, inr, ℕ, zero, suc, ◌+◌, ◌*◌, ◌≤◌, ◌<◌, List, [], ◌∷◌, ◌++◌, length, take, refl, sym, ap, subst, ◌∙◌, arith}
+use Rattle.std.proofs.Common.{◌≡◌, ◌⊎◌, inl, inr, ℕ, ◌+◌, ◌*◌, ◌≤◌, ◌<◌, List, [], ◌∷◌, ◌++◌, length, take, ap, ◌∙◌, arith}
 use Rattle.std.specs.List.{AllByRecursion}
 use Rattle.std.proofs.lemmas.Bool.{cases_lt}
 use Rattle.std.proofs.lemmas.List.{length-take, length-append}
-use Rattle.cap_frame.specs.Frame.{IsBody, IsWhole, IsUnfinished, BeginsBad, HasNoFrame, stated_length, frame_of, frames_of, end_of, held_of}
+use Rattle.cap_frame.specs.Frame.{IsBody, IsWhole, BeginsBad, stated_length, frame_of, frames_of, end_of, held_of}
 use Rattle.cap_frame.proofs.Streams.{stated_front, length_frame, end_good, end_least}
 use Rattle.cap_drive.specs.Going.{IsBegun}
 

@@ -1,20 +1,20 @@
 -- How a connection is closed.
-use Rattle.std.proofs.Common.{◌≡◌, ◌⊎◌, inl, inr, ℕ, ◌+◌, ◌<◌, ◌≤◌, List, [], ◌∷◌, ◌++◌, length, map, Bool, IsTrue, Option, Some, refl, sym, ap, subst, ◌∙◌, append_assoc, arith}
+use Rattle.std.proofs.Common.{◌≡◌, ◌⊎◌, inl, inr, ℕ, ◌<◌, List, [], ◌∷◌, ◌++◌, length, map, Bool, IsTrue, Option, Some, refl, sym, ap, subst, ◌∙◌, append_assoc, arith}
 use Rattle.std.specs.List.{AllByRecursion}
 use Rattle.std.proofs.lemmas.List.{append-nil}
 use Rattle.cap_frame.specs.Frame.{IsBody, BeginsBad, HasNoFrame, Frames, stated_length, frame_of, frames_of}
 use Rattle.cap_frame.proofs.OneList.{frames_push, all_push}
 use Rattle.cap_link.specs.Lines.{Lines, Line, Exchanges, HasNoneLeft, nothing, exchanges_more}
 use Rattle.cap_answering.specs.declared.reply.Reply.{Reply}
-use Rattle.cap_answering.specs.Steps.{Event, EndState, working, Steps, steps_more}
+use Rattle.cap_answering.specs.Steps.{EndState, working, steps_more}
 use Rattle.cap_drive.specs.declared.closing.Closing.{Closing}
 use Rattle.cap_drive.specs.declared.closing.Closing.TheVariants.{End, Fault, BadLength, Disk, FrameLimit, Memory}
 use Rattle.cap_drive.specs.declared.closing.Tally.{Tally}
-use Rattle.cap_drive.specs.Frames.{Answered, Task, replies_of, bodies_of, IsTold, Does, Tries}
-use Rattle.cap_drive.specs.Connections.{Ending, At_end, At_take, At_put, At_bad_length, At_limit, Lacks, Lacks_to_put, Connection, last_body, last_events, last_moment, LeavesRest, Counts, IsEmptied}
-use Rattle.cap_drive.specs.Going.{act_of, moment_of, IsBegun, Goes, Cuts, Tried, FrameBreaks, Stops}
-use Rattle.cap_drive.specs.Closings.{closing_of, Made, ToDisk, Closes}
-use Rattle.cap_drive.proofs.Pieces.{all_append, going_nothing, goes_more, stops_later}
+use Rattle.cap_drive.specs.Frames.{replies_of, bodies_of, IsTold, Does, Tries}
+use Rattle.cap_drive.specs.Connections.{Ending, At_end, At_take, At_put, At_bad_length, At_limit, Lacks, Lacks_to_put, last_body, last_events, last_moment, LeavesRest, Counts, IsEmptied}
+use Rattle.cap_drive.specs.Going.{act_of, moment_of, IsBegun, Goes, Cuts, FrameBreaks, Stops}
+use Rattle.cap_drive.specs.Closings.{Made, Closes}
+use Rattle.cap_drive.proofs.Pieces.{all_append, goes_more, stops_later}
 
 line_is : (x y : Line) → (let a : Option Line = Some x in a ≡ Some y) → x ≡ y
 line_is x y e = cc

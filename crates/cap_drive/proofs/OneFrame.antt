@@ -1,14 +1,12 @@
 -- One frame.
-use Rattle.std.proofs.Common.{◌≡◌, ◌⊎◌, inl, inr, ℕ, ◌≤◌, ◌<◌, List, [], ◌∷◌, ◌++◌, length, take, Bool, true, false, IsTrue, Option, refl, sym, ap, subst, arith}
-use Rattle.cap_frame.specs.Frame.{IsBody, frames_of}
+use Rattle.std.proofs.Common.{◌≡◌, inl, inr, ℕ, ◌≤◌, List, [], ◌∷◌, ◌++◌, length, Bool, true, false, IsTrue, Option, refl, ap, subst}
+use Rattle.cap_frame.specs.Frame.{frames_of}
 use Rattle.cap_link.specs.Lines.{Lines, Exchanges, PutsSome, untold}
 use Rattle.cap_answering.specs.declared.reply.Reply.{Reply}
-use Rattle.cap_answering.specs.declared.reply.Reply.TheVariants.{Bytes, Silent}
-use Rattle.cap_answering.specs.Answering.{FitsFrame}
-use Rattle.cap_answering.specs.Steps.{Event, Acts, EndState, working, Steps}
+use Rattle.cap_answering.specs.Steps.{working, Steps}
 use Rattle.cap_drive.specs.declared.closing.Closing.TheVariants.{Fault, Memory}
-use Rattle.cap_drive.specs.Frames.{Answered, Task, task_of, reply_bytes, IsTold, Does, Tries}
-use Rattle.cap_drive.specs.Connections.{Ending, At_put, Lacks, Lacks_to_put}
+use Rattle.cap_drive.specs.Frames.{reply_bytes, IsTold, Does, Tries}
+use Rattle.cap_drive.specs.Connections.{Lacks}
 use Rattle.cap_drive.specs.Going.{act_of, ServesFrame, Cuts, FrameBreaks}
 
 -- a front of these bytes was put, also where the link tells nothing

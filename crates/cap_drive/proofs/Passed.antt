@@ -1,28 +1,22 @@
 -- What follows a connection.
-use Rattle.std.proofs.Common.{◌≡◌, ◌⊎◌, inl, inr, ℕ, ◌+◌, ◌-◌, ◌^◌, ◌<◌, ◌≤◌, min, List, [], ◌∷◌, ◌++◌, length, map, take, Bool, true, false, IsTrue, Option, Result, Ok, Err, refl, sym, ap, subst, ◌∙◌, arith}
+use Rattle.std.proofs.Common.{◌≡◌, ◌⊎◌, ℕ, ◌≤◌, List, [], ◌∷◌, ◌++◌, map, take, Bool, true, false, IsTrue, Option, Result, Err, refl, sym, subst, arith}
 use Rattle.std.specs.List.{AllByRecursion}
 use Rattle.std.proofs.lemmas.Bool.{false≢true}
 use Rattle.std.proofs.lemmas.List.{append-nil}
 use Rattle.cap_base.specs.Causes.{Rose}
 use Rattle.cap_frame.specs.Frame.{frames_of}
 use Rattle.cap_link.specs.Lines.{Lines, Exchanges}
-use Rattle.cap_answering.specs.declared.fault.ReopenFault.{ReopenFault}
-use Rattle.cap_answering.specs.declared.fault.ReopenFault.TheVariants.{Disk as Refused_disk, NotFormatted, Damaged, NotAllowed, Memory as Refused_memory}
 use Rattle.cap_answering.specs.declared.reply.Reply.{Reply}
-use Rattle.cap_answering.specs.Answering.{EachHasFrontOf, HasFrontOf}
-use Rattle.cap_answering.specs.Steps.{Event, Interrupted, Restart, Interrupted_restart, EndState, working, Holds, Steps, steps_more}
-use Rattle.cap_drive.specs.declared.closing.Closing.{Closing}
-use Rattle.cap_drive.specs.declared.closing.Closing.TheVariants.{End, Fault, BadLength, Disk, FrameLimit, Memory}
+use Rattle.cap_answering.specs.Steps.{EndState, working, Holds, Steps, steps_more}
+use Rattle.cap_drive.specs.declared.closing.Closing.TheVariants.{Disk}
 use Rattle.cap_drive.specs.declared.serve.ServeEnd.{ServeEnd}
 use Rattle.cap_drive.specs.declared.serve.ServeEnd.TheVariants.{Disk as Ends_disk, Memory as Ends_memory}
-use Rattle.cap_drive.specs.Counted.{RoseBy, rose_more, rose_later}
-use Rattle.cap_drive.specs.Frames.{Answered, Task, tried_at, replies_of, bodies_of, IsTold, Does, Tries}
-use Rattle.cap_drive.specs.Connections.{Ending, At_end, At_take, At_put, At_bad_length, At_disk, At_limit, Shut, Lacks, Lacks_to_put, Connection, last_events, last_moment, is_whole, IsShut, IsServed, IsEmptied}
-use Rattle.cap_drive.specs.Lines.{line_fault, disk_fault}
-use Rattle.cap_drive.specs.Driver.{ComesBack, images_of, faults_of}
-use Rattle.cap_drive.specs.Going.{act_of, moment_of, HasRisen, StillWorks, Tried}
-use Rattle.cap_drive.specs.Closings.{closing_of, Made, ToDisk, Closes}
-use Rattle.cap_drive.specs.Passing.{end_by, GoesOn, BreaksIn}
+use Rattle.cap_drive.specs.Counted.{rose_more, rose_later}
+use Rattle.cap_drive.specs.Frames.{replies_of, IsTold, Does, Tries}
+use Rattle.cap_drive.specs.Connections.{Ending, At_disk, Shut, Connection, last_events, last_moment, IsServed, IsEmptied}
+use Rattle.cap_drive.specs.Going.{act_of, moment_of}
+use Rattle.cap_drive.specs.Closings.{Made, ToDisk}
+use Rattle.cap_drive.specs.Passing.{GoesOn, BreaksIn}
 use Rattle.cap_drive.proofs.Pieces.{all_append}
 
 pub rose_later_so : (a b c : ℕ) → Rose a b → b ≤ c → Rose a c
@@ -76,9 +70,9 @@ module _ {E : Type 0} (known readable : Bool) (adds : List E → ℕ → List �
         → GoesOn known readable adds replies told tells Disk replied old entries before after a b c d
     goes_reopened entries a b c d line rose one opened =
         let front : IsTrue known → (kept : ℕ) × (entries ≡ x.middle ++ take kept x.tried.added) = λ can.
-            let o = opened can in
-            let f = x.tried.left can o.0 o.1 in
-            (f.0, one o.0 entries (x.middle ++ take f.0 x.tried.added) o.2 f.1) in
+        let o = opened can in
+        let f = x.tried.left can o.0 o.1 in
+        (f.0, one o.0 entries (x.middle ++ take f.0 x.tried.added) o.2 f.1) in
         let k = kept_of known entries front in
         record {
           c = record { answered = x.answered; ending = At_disk x.tried.moment x.body k.0; taken = x.taken; put = frames_of (replies_of x.answered) ++ [] };
@@ -114,7 +108,7 @@ module _ {E : Type 0} (known readable : Bool) (adds : List E → ℕ → List �
       disks = rose_later 1 c mid d rose later;
       twice = λ can reads is.
           let allowed : (image : List ℕ) → images image → (list : List E) × has image list × is_allowed list = λ image left.
-              let f = x.tried.left can image left in
-              (x.middle ++ take f.0 x.tried.added, f.1, x.tried.allowed reads f.0) in
+          let f = x.tried.left can image left in
+          (x.middle ++ take f.0 x.tried.added, f.1, x.tried.allowed reads f.0) in
           rose_more 1 1 c mid d rose (twice can allowed is);
     }

@@ -2,15 +2,15 @@
 use Rattle.std.proofs.Common.{◌≡◌, ◌⊎◌, inl, inr, ℕ, zero, suc, ◌+◌, ◌<◌, ◌≤◌, List, [], ◌∷◌, ◌++◌, length, take, drop, map, Bool, IsTrue, Option, Some, None, MatchOption, refl, sym, ap, subst, ◌∙◌, append_assoc, arith}
 use Rattle.std.specs.List.{AllByRecursion}
 use Rattle.std.proofs.lemmas.List.{append-nil, take-append-drop, length-append, map-append}
-use Rattle.cap_frame.specs.Frame.{IsBody, IsWhole, BeginsBad, frame_of, frames_of}
+use Rattle.cap_frame.specs.Frame.{IsBody, IsWhole, frame_of, frames_of}
 use Rattle.cap_link.specs.Lines.{Lines, Exchanges, exchanges_more}
 use Rattle.cap_answering.specs.declared.reply.Reply.{Reply}
-use Rattle.cap_answering.specs.Steps.{Event, EndState, working, Steps, steps_more}
+use Rattle.cap_answering.specs.Steps.{Event, working, Steps, steps_more}
 use Rattle.cap_drive.specs.declared.closing.Closing.{Closing}
 use Rattle.cap_drive.specs.declared.closing.Closing.TheVariants.{End, Fault, BadLength, Disk, FrameLimit, Memory}
 use Rattle.cap_drive.specs.declared.closing.Tally.{Tally}
 use Rattle.cap_drive.specs.Frames.{Answered, Task, reply_bytes, replies_of, bodies_of, IsTold, Does, Tries}
-use Rattle.cap_drive.specs.Going.{act_of, moment_of, HasRisen, StillWorks, ServesFrame, Goes, Broken, FrameBreaks, Stops}
+use Rattle.cap_drive.specs.Going.{act_of, moment_of, HasRisen, ServesFrame, Goes, Broken, FrameBreaks, Stops}
 
 pub all_append : {X : Type 0} (P : X → Type 0) (xs ys : List X) → AllByRecursion P xs → AllByRecursion P ys → AllByRecursion P (xs ++ ys)
 all_append P [] ys a b = b
@@ -29,7 +29,7 @@ pub joined_more : (xs ys : List (List ℕ)) (held first second mid next : List �
     → held ++ (first ++ second) ≡ frames_of (xs ++ ys) ++ next
 joined_more xs ys held first second mid next x y =
     sym (append_assoc held first second) ∙ (ap (λ (l : List ℕ). l ++ second) x ∙ (append_assoc (frames_of xs) mid second
-        ∙ (ap (λ (l : List ℕ). frames_of xs ++ l) y ∙ (sym (append_assoc (frames_of xs) (frames_of ys) next) ∙ ap (λ (l : List ℕ). l ++ next) (sym (frames_append xs ys))))))
+    ∙ (ap (λ (l : List ℕ). frames_of xs ++ l) y ∙ (sym (append_assoc (frames_of xs) (frames_of ys) next) ∙ ap (λ (l : List ℕ). l ++ next) (sym (frames_append xs ys))))))
 
 -- the counts that rose after some time rose over all of it
 pub risen_later : (closing : Closing) (a b c d e f : ℕ) → a ≤ b → d ≤ e → HasRisen closing b c e f → HasRisen closing a c d f

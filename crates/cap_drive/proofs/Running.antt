@@ -1,18 +1,17 @@
 -- A run of connections, one after the other.
-use Rattle.std.proofs.Common.{◌≡◌, ◌⊎◌, inl, inr, ℕ, zero, suc, ◌+◌, ◌-◌, ◌^◌, ◌<◌, ◌≤◌, min, List, [], ◌∷◌, ◌++◌, length, Bool, true, false, IsTrue, Option, Some, None, Result, refl, sym, ap, subst, ◌∙◌, append_assoc, arith}
-use Rattle.std.specs.List.{AllByRecursion}
+use Rattle.std.proofs.Common.{◌≡◌, ◌⊎◌, inl, inr, ℕ, suc, ◌+◌, ◌<◌, ◌≤◌, List, [], ◌∷◌, ◌++◌, length, Bool, true, false, IsTrue, Option, Some, None, Result, refl, sym, ap, subst, ◌∙◌, append_assoc, arith}
 use Rattle.std.specs.Io.KnownBytes.{Appends}
 use Rattle.std.proofs.lemmas.List.{append-nil, length-append}
 use Rattle.cap_base.specs.Streams.{AppendsSome}
-use Rattle.cap_link.specs.Lines.{Lines, Opens, Exchanges}
+use Rattle.cap_link.specs.Lines.{Lines, Opens}
 use Rattle.cap_answering.specs.declared.reply.Reply.{Reply}
-use Rattle.cap_answering.specs.Steps.{EndState, working, Holds}
+use Rattle.cap_answering.specs.Steps.{EndState, working}
 use Rattle.cap_drive.specs.declared.closing.Closing.{Closing}
 use Rattle.cap_drive.specs.declared.serve.ServeEnd.{ServeEnd}
-use Rattle.cap_drive.specs.declared.serve.ServeEnd.TheVariants.{Done, Port, Write, Disk, Memory}
-use Rattle.cap_drive.specs.Counted.{RoseBy, rose_more}
-use Rattle.cap_drive.specs.Frames.{replies_of, IsTold}
-use Rattle.cap_drive.specs.Connections.{Ending, At_end, At_take, At_put, At_bad_length, At_disk, At_limit, Shut, Lacks, Lacks_to_put, Connection, is_whole, IsShut, IsServed, moments_of, Talks, AllWhole, HostRun}
+use Rattle.cap_drive.specs.declared.serve.ServeEnd.TheVariants.{Write, Disk, Memory}
+use Rattle.cap_drive.specs.Counted.{RoseBy}
+use Rattle.cap_drive.specs.Frames.{replies_of}
+use Rattle.cap_drive.specs.Connections.{Ending, At_end, At_take, At_put, At_bad_length, At_disk, At_limit, Shut, Lacks, Lacks_to_put, Connection, is_whole, Talks, AllWhole, HostRun}
 use Rattle.cap_drive.specs.Composing.{run_more}
 use Rattle.cap_drive.specs.Lines.{connection_line, connection_lines, line_by, line_fault, disk_fault, line_faults, disk_faults}
 use Rattle.cap_drive.specs.Driver.{BreaksOff, Serves}

@@ -1,14 +1,14 @@
 -- A run of the driver, and then one connection more.
-use Rattle.std.proofs.Common.{refl, sym, ◌∙◌, ap, subst, append_assoc}
+use Rattle.std.proofs.Common.{sym, ◌∙◌, ap, subst, append_assoc}
 use Rattle.std.proofs.lemmas.List.{append-nil}
 use Rattle.std.specs.Prelude.{◌≡◌, ℕ, Bool, List, [], ◌∷◌, ◌++◌, Option, IsTrue}
 use Rattle.std.specs.List.{AllByRecursion}
-use Rattle.cap_link.specs.Lines.{Lines, Opens, Exchanges}
+use Rattle.cap_link.specs.Lines.{Lines, Opens}
 use Rattle.cap_answering.specs.declared.reply.Reply.{Reply}
 use Rattle.cap_answering.specs.Steps.{Event}
 use Rattle.cap_answering.specs.Steps.{EndState, Steps, steps_more}
 use Rattle.cap_drive.specs.Frames.{Task, IsTold, Does, Tries}
-use Rattle.cap_drive.specs.Connections.{Connection, events_of, all_events, moments_of, IsServed, IsEmptied, Talks, HostRun}
+use Rattle.cap_drive.specs.Connections.{Connection, events_of, all_events, moments_of, IsServed, Talks, HostRun}
 
 events_push : (cs : List Connection) (c : Connection) → all_events (cs ++ c ∷ []) ≡ all_events cs ++ events_of c
 events_push [] c = append-nil (events_of c)
@@ -32,7 +32,7 @@ module _ {E : Type 0} (known readable : Bool) (adds : List E → ℕ → List �
       → HostRun known readable adds replies told link_tells (cs ++ c ∷ []) old new before after
   run_more cs c old mid new before between after run steps served moments talks = record {
     steps = subst (λ (l : List (Event Task)). Steps known (Does readable adds replies) (Tries readable adds replies) old l new) (sym (events_push cs c))
-    (steps_more known (Does readable adds replies) (Tries readable adds replies) old mid new (all_events cs) (events_of c) run.steps steps);
+        (steps_more known (Does readable adds replies) (Tries readable adds replies) old mid new (all_events cs) (events_of c) run.steps steps);
     each = all_push IsServed cs c run.each served;
     moments = all_push (λ (d : Connection). AllByRecursion (IsTold told) (moments_of d)) cs c run.moments moments;
     talks = λ tells. talks_push before between after cs c (run.talks tells) (talks tells);

@@ -1,5 +1,5 @@
 -- What an end makes of the connections of a link.
-use Rattle.std.specs.Prelude.{◌≡◌, ◌⊎◌, ℕ, ◌+◌, ◌<◌, Bool, true, false, List, [], ◌∷◌, ◌++◌, length, map, Option, None, IsTrue}
+use Rattle.std.specs.Prelude.{◌≡◌, ℕ, ◌<◌, Bool, true, false, List, [], ◌∷◌, ◌++◌, length, map, Option, None, IsTrue}
 use Rattle.std.specs.List.{AllByRecursion}
 use Rattle.cap_frame.specs.Frame.{IsBody, Frames, BeginsBad, frames_of, stated_length}
 use Rattle.cap_link.specs.Lines.{Lines, Opens, Exchanges, HasNoneLeft}

@@ -1,12 +1,11 @@
 -- How serving ends.
-use Rattle.std.specs.Prelude.{◌≡◌, ◌⊎◌, ℕ, ◌≤◌, ◌<◌, true, false, Bool, List, [], ◌∷◌, ◌++◌, ◌+◌, length, Option, Result, Ok, Err, IsTrue}
+use Rattle.std.specs.Prelude.{◌≡◌, ◌⊎◌, ℕ, ◌≤◌, ◌<◌, false, Bool, List, [], ◌∷◌, ◌++◌, ◌+◌, length, Option, Result, Ok, Err, IsTrue}
 use Rattle.std.specs.Io.KnownBytes.{Appends}
-use Rattle.cap_base.specs.Causes.{Rose}
 use Rattle.cap_link.specs.Lines.{Lines}
 use Rattle.cap_drive.specs.declared.serve.ServeEnd.{ServeEnd}
 use Rattle.cap_drive.specs.declared.serve.ServeEnd.TheVariants.{Done, Port, Write, Disk, Memory}
 use Rattle.cap_drive.specs.Counted.{RoseBy}
-use Rattle.cap_answering.specs.Steps.{EndState, working, Holds}
+use Rattle.cap_answering.specs.Steps.{EndState, working}
 use Rattle.cap_answering.specs.declared.reply.Reply.{Reply}
 use Rattle.cap_drive.specs.Connections.{Connection, HostRun, AllWhole, Breaks, IsShut, is_whole}
 use Rattle.cap_drive.specs.Lines.{connection_line, connection_lines, line_faults, disk_faults}

@@ -1,5 +1,5 @@
 -- How far a connection is served.
-use Rattle.std.specs.Prelude.{◌≡◌, ◌⊎◌, ℕ, ◌+◌, ◌≤◌, ◌<◌, Bool, true, false, IsTrue, List, [], ◌∷◌, ◌++◌, length, map, take, Option, Some, None}
+use Rattle.std.specs.Prelude.{◌≡◌, ◌⊎◌, ℕ, ◌+◌, ◌<◌, Bool, false, IsTrue, List, [], ◌∷◌, ◌++◌, length, map, take, Option}
 use Rattle.std.specs.List.{AllByRecursion}
 use Rattle.cap_base.specs.Causes.{Rose}
 use Rattle.cap_frame.specs.Frame.{IsBody, IsWhole, BeginsBad, HasNoFrame, stated_length, frame_of, frames_of}

@@ -1,8 +1,8 @@
 // One frame: its answer, and the frame of the reply.
-ghost use Rattle.std.specs.Prelude.{◌≡◌, ◌≤◌, ◌<◌, ◌+◌, ◌⊎◌, ℕ, List, [], ◌∷◌, length, Bool, true, false, Option, Some, IsTrue, IfOk, IfErr, OnOk, OnErr, IsErrOf, MatchResult};
+ghost use Rattle.std.specs.Prelude.{◌≡◌, ◌≤◌, ◌<◌, [], ◌∷◌, true, false, IsTrue, IfOk, IfErr, MatchResult};
 ghost use Rattle.cap_base.specs.Causes.{HasPutCause};
 ghost use Rattle.cap_frame.specs.Frame.{IsBody, frames_of};
-ghost use Rattle.cap_link.specs.Lines.{Lines, Puts};
+ghost use Rattle.cap_link.specs.Lines.{Puts};
 ghost use Rattle.cap_drive.specs.Going.{ServesFrame, FrameBreaks, HasRisen, StillWorks};
 
 use crate::closing::Closing;

@@ -1,5 +1,4 @@
 // How a connection ends.
-ghost use Rattle.std.specs.Prelude.{◌≡◌};
 
 /// Why a connection is served no longer.
 #[derive(Clone, Copy, Debug, PartialEq, Eq)]

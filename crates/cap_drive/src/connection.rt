@@ -1,6 +1,5 @@
 // One connection.
-ghost use Rattle.std.specs.Prelude.{◌≡◌, ◌≤◌, ◌<◌, ◌+◌, ◌++◌, ◌⊎◌, ℕ, List, [], ◌∷◌, length, take, Bool, true, false, Option, Some, IsTrue, IfOk, IfErr, OnOk, OnErr, IsErrOf, MatchResult};
-ghost use Rattle.cap_link.specs.Lines.{Lines};
+ghost use Rattle.std.specs.Prelude.{◌≡◌, ◌≤◌, ◌<◌, ◌+◌, [], length, take, true, false, Some, IfOk, IfErr, OnOk, MatchResult};
 ghost use Rattle.cap_drive.specs.Going.{IsBegun, Goes, Stops, HasRisen, StillWorks};
 ghost use Rattle.cap_drive.specs.Closings.{Closes};
 

@@ -10,12 +10,7 @@ use cap_base::{PutError, Sink};
 use std::alloc::{AllocError, Global};
 
 // The text of a line that ends so. The one error is want of memory, here and below.
-fn line_text(
-    alloc: Global,
-    number: u64,
-    replied: u64,
-    ending: &str,
-) -> Result<String, AllocError>
+fn line_text(alloc: Global, number: u64, replied: u64, ending: &str) -> Result<String, AllocError>
     ensures { IfOk result (λ text. string_bytes text ≡ line_with number replied ending.now) }
 {
     format!(in alloc; "connection {number} frames {replied}{ending}\n")
@@ -34,12 +29,7 @@ fn bad_length_text(
 }
 
 // The text of the line.
-fn text_of(
-    alloc: Global,
-    number: u64,
-    replied: u64,
-    closing: Closing,
-) -> Result<String, AllocError>
+fn text_of(alloc: Global, number: u64, replied: u64, closing: Closing) -> Result<String, AllocError>
     ensures { IfOk result (λ text. string_bytes text ≡ closing_line number replied closing) }
 {
     match closing {

@@ -1,5 +1,5 @@
 // The driver of an end that answers.
-ghost use Rattle.std.specs.Prelude.{◌≡◌, ◌≤◌, ◌<◌, ◌+◌, ◌-◌, ◌^◌, ◌++◌, ◌⊎◌, ◌↔◌, ℕ, List, [], length, Bool, true, false, Option, Some, None, IsTrue, IsErr, IfOk, IfErr, MatchResult};
+ghost use Rattle.std.specs.Prelude.{◌≡◌, ◌≤◌, ◌<◌, ◌+◌, ◌-◌, ◌^◌, ◌⊎◌, ℕ, List, length, true, false, IsTrue, IsErr, IfOk, IfErr, MatchResult};
 ghost use Rattle.cap_base.specs.Causes.{Rose};
 ghost use Rattle.cap_answering.specs.Steps.{EndState, Holds};
 ghost use Rattle.cap_drive.specs.Connections.{Connection};

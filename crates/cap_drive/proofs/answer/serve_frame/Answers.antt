@@ -1,4 +1,4 @@
-use Rattle.std.proofs.Common.{◌≡◌, inl, inr, refl, sym, ap, ◌∙◌, subst, List, ℕ, [], ◌∷◌, IsTrue}
+use Rattle.std.proofs.Common.{inl, refl, sym, ap, ◌∙◌, List, ℕ, IsTrue}
 use Rattle.cap_link.specs.Lines.{nothing}
 use Rattle.cap_answering.specs.declared.reply.Reply.{Reply}
 use Rattle.cap_answering.specs.declared.reply.Reply.TheVariants.{Bytes, Silent}

@@ -1,5 +1,5 @@
-use Rattle.std.proofs.Common.{◌≡◌, ◌⊎◌, inl, inr, ◌<◌, ◌≤◌, ◌++◌, ℕ, List, [], take, length, refl, sym, ap, subst, ◌∙◌, arith, IsTrue}
-use Rattle.std.proofs.lemmas.List.{length-append, length-map, length-take-le}
+use Rattle.std.proofs.Common.{◌++◌, ℕ, List, [], take, length, refl, sym, ap, subst, ◌∙◌, arith, IsTrue}
+use Rattle.std.proofs.lemmas.List.{length-append, length-map}
 use Rattle.cap_link.specs.Lines.{Lines, Exchanges, nothing}
 use Rattle.cap_drive.specs.Frames.{Answered, bodies_of}
 use Rattle.cap_drive.proofs.Begun.{begun_none, too_many}

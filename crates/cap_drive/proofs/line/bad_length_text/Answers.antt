@@ -1,4 +1,4 @@
-use Rattle.std.proofs.Common.{List, ℕ, [], ◌∷◌, ◌++◌, string_bytes, codes}
+use Rattle.std.proofs.Common.{[], ◌∷◌, ◌++◌, string_bytes, codes}
 use Rattle.std.specs.Fmt.{decimal}
 use Rattle.cap_drive.proofs.Texts.{text_as, regroup}
 use Rattle.cap_drive.proofs.line.bad_length_text.Goals as goal

@@ -1,4 +1,4 @@
-use Rattle.std.proofs.Common.{◌≡◌, ◌<◌, ◌≤◌, ◌++◌, ◌∷◌, [], refl, sym, ap, ◌∙◌, subst, IsTrue, arith}
+use Rattle.std.proofs.Common.{◌++◌, ◌∷◌, [], refl, ◌∙◌, arith}
 use Rattle.cap_drive.proofs.Passed.{holds_now}
 use Rattle.cap_drive.proofs.Running.{running_still, running_more, serves_write, serves_line_lacks, serves_in, counted_next, goes_on_as, breaks_in_as}
 use Rattle.cap_drive.proofs.serve.serve_any.Goals as goal

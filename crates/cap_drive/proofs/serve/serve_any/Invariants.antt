@@ -1,4 +1,4 @@
-use Rattle.std.proofs.Common.{◌≡◌, ◌≤◌, ◌<◌, true, false, List, [], ℕ}
+use Rattle.std.proofs.Common.{◌≡◌, ◌≤◌, false}
 use Rattle.cap_drive.proofs.Running.{Running}
 use Rattle.cap_drive.proofs.serve.serve_any.Given as goal
 

@@ -1,5 +1,4 @@
-use Rattle.std.proofs.Common.{refl, sym, ap, ◌∙◌, subst, IsTrue, arith}
-use Rattle.cap_drive.specs.declared.closing.Closing.TheVariants.{Disk}
+use Rattle.std.proofs.Common.{◌∙◌, arith}
 use Rattle.cap_drive.proofs.Passed.{disk_shut, goes_reopened, breaks_shut, rose_later_so}
 use Rattle.cap_drive.proofs.serve.serve_one.Goals as goal
 

@@ -10,10 +10,10 @@ ghost use Rattle.cap_host.specs.Host.{entries_of, fetched_of, fault_of, has_fail
 
 use crate::host::Host;
 use crate::spelt::are_spelt;
+use cap_answering::HostFault;
 use cap_base::Item;
 use cap_entries::{HostEntry, batches_are_groups, records_are_bounded};
 use cap_host_answers::took_all;
-use cap_answering::HostFault;
 use cap_journal::Journal;
 
 impl<J: Journal<HostEntry> + Drop> Host<J> {

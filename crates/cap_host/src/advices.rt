@@ -12,11 +12,11 @@ ghost use Rattle.cap_host.specs.Host.{entries_of, fetched_of, fault_of, Reads};
 
 use crate::decision::Decision;
 use crate::host::Host;
+use cap_answering::HostFault;
 use cap_base::{Item, Response, Totals};
 use cap_batch_msgs::BatchBody;
 use cap_entries::HostEntry;
 use cap_host_answers::{approved, differs, expects, replies, same_totals};
-use cap_answering::HostFault;
 use cap_journal::Journal;
 use cap_msgs::Body;
 use cap_sale_msgs::SaleBody;

@@ -12,10 +12,10 @@ ghost use Rattle.cap_host.specs.Answers.{Answers};
 
 use crate::decision::Decision;
 use crate::host::Host;
+use cap_answering::{HostFault, Reply};
 use cap_base::{Ident, Item};
 use cap_entries::HostEntry;
 use cap_host_answers::answer_fault;
-use cap_answering::{HostFault, Reply};
 use cap_journal::Journal;
 use cap_leaf::Fault;
 use cap_msgs::{Body, DecodeError, Message, decode};

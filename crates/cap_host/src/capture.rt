@@ -6,9 +6,9 @@ ghost use Rattle.cap_host.specs.Capture.{line_of};
 ghost use Rattle.cap_host.specs.Host.{entries_of, fetched_of, fault_of, Reads};
 
 use crate::host::Host;
+use cap_answering::HostFault;
 use cap_base::{Account, Amount, Code6, Item};
 use cap_entries::HostEntry;
-use cap_answering::HostFault;
 use cap_journal::Journal;
 
 /// A captured sale.

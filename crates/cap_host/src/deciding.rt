@@ -13,6 +13,7 @@ ghost use Rattle.cap_host.specs.Host.{entries_of, fetched_of, fault_of, readings
 
 use crate::decision::Decision;
 use crate::host::Host;
+use cap_answering::HostFault;
 use cap_base::{Amount, DataSet, Item, Reason};
 use cap_batch_msgs::BatchBody;
 use cap_entries::HostEntry;
@@ -20,7 +21,6 @@ use cap_host_answers::{
     cancel_answer, cancellation, decide, given, is_of_host, item_of, needs_no_answer, plan_setup,
     quiet, rejected, tell_state,
 };
-use cap_answering::HostFault;
 use cap_journal::Journal;
 use cap_manager::answer_status;
 use cap_mgmt_msgs::MgmtBody;

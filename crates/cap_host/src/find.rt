@@ -12,10 +12,10 @@ ghost use Rattle.cap_host.specs.Held.{item_held};
 ghost use Rattle.cap_host.specs.Host.{entries_of, fetched_of, fault_of, Reads};
 
 use crate::host::Host;
+use cap_answering::HostFault;
 use cap_base::Item;
 use cap_entries::HostEntry;
 use cap_host_answers::same;
-use cap_answering::HostFault;
 use cap_journal::Journal;
 
 // Whether an item is a sale of this amount.

@@ -11,10 +11,10 @@ ghost use Rattle.cap_host_answers.specs.Answer.{fitting};
 ghost use Rattle.cap_host.specs.Host.{entries_of, fetched_of, fault_of, Reads};
 
 use crate::host::Host;
+use cap_answering::HostFault;
 use cap_base::Item;
 use cap_entries::HostEntry;
 use cap_host_answers::{count_closes, has_cancel, has_end, has_sale, is_sale_number};
-use cap_answering::HostFault;
 use cap_journal::Journal;
 
 impl<J: Journal<HostEntry> + Drop> Host<J> {

@@ -11,10 +11,10 @@ ghost use Rattle.cap_host.specs.Host.{entries_of, journal_of, has_failed, ending
 use crate::host::Host;
 use crate::tables::Tables;
 use crate::terminal_name::TerminalName;
+use cap_answering::HostFault;
 use cap_base::Memory;
 use cap_entries::{HostEntry, HostJudge, HostSetup, RowSet};
 use cap_host_index::LogIndex;
-use cap_answering::HostFault;
 use cap_host_ledger::Ledger;
 use cap_journal::Journal;
 use indexmap::IndexSet;

@@ -8,8 +8,8 @@ ghost use Rattle.cap_host.specs.Host.{entries_of, fetched_of, fault_of, has_fail
 
 use crate::host::Host;
 use crate::spelt::set_is_spelt;
-use cap_entries::{HostEntry, RowSet};
 use cap_answering::HostFault;
+use cap_entries::{HostEntry, RowSet};
 use cap_journal::Journal;
 
 /// Why a parameter set was not published.

@@ -16,10 +16,10 @@ ghost use Rattle.cap_host.specs.Reply.{IsText};
 ghost use Rattle.cap_host.specs.Host.{entries_of};
 
 use crate::host::Host;
+use cap_answering::{ByteText, HostFault};
 use cap_base::{Ident, Totals};
 use cap_batch_msgs::BatchBody;
 use cap_entries::HostEntry;
-use cap_answering::{ByteText, HostFault};
 use cap_journal::Journal;
 use cap_leaf::{DateTime, Header, Refused};
 use cap_mgmt_msgs::{Action, MgmtBody};

@@ -34,9 +34,11 @@ returns-in-Err-NotFormatted-clause-why g c = λ told all.
 
 pub returns-in-Ok-open-clause-entries : goal.returns-in-Ok-open-clause-entries
 returns-in-Ok-open-clause-entries g c = λ told.
-    let told_old = ap g.J.Journal.tells c.into_journal-journal.ensures ∙ told in
-    (g.J.Journal.shown (journal_of c.args.self), g.met.J.Journal.shows_one (journal_of c.args.self) told,
-    subst (λ j. HostHas (g.J.Journal.shown j) (entries_of c.in-Ok-open.host)) c.into_journal-journal.ensures (subst (λ l. HostHas (g.J.Journal.shown c.into_journal-journal.result) l) (sym c.in-Ok-open.ensures.entries) (c.in-Ok.ensures.entries told_old)))
+    let told_old = ap g.J.Journal.tells c.into_journal-journal.ensures ∙ told in (
+      g.J.Journal.shown (journal_of c.args.self),
+      g.met.J.Journal.shows_one (journal_of c.args.self) told,
+      subst (λ j. HostHas (g.J.Journal.shown j) (entries_of c.in-Ok-open.host)) c.into_journal-journal.ensures (subst (λ l. HostHas (g.J.Journal.shown c.into_journal-journal.result) l) (sym c.in-Ok-open.ensures.entries) (c.in-Ok.ensures.entries told_old)),
+    )
 
 pub returns-in-Err-Damaged-clause-why : goal.returns-in-Err-Damaged-clause-why
 returns-in-Err-Damaged-clause-why g c = λ told all.

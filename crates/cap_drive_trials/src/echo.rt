@@ -1,5 +1,5 @@
 // An end that says back what it hears, and keeps nothing.
-ghost use Rattle.std.specs.Prelude.{◌≡◌, ◌≤◌, ◌<◌, ◌+◌, ℕ, List, [], false, true, Unit};
+ghost use Rattle.std.specs.Prelude.{◌≡◌, ◌≤◌, ◌<◌, ◌+◌, ℕ, List, [], false, true};
 ghost use Rattle.std.proofs.lemmas.Bool.{false≢true};
 
 use cap_answering::{Answering, ByteText, HostFault, ReopenFault, Reply};

@@ -92,10 +92,10 @@ impl Answering for Echo {
                 self.faults = self.faults.saturating_add(1);
                 Err(HostFault::Disk)
             }
-            Some(_) => {
-                let text = Vec::from_slice(self.alloc, bytes)?;
-                Ok(Reply::Bytes(ByteText::new(text)))
-            }
+            Some(_) => match Vec::from_slice(self.alloc, bytes) {
+                Ok(text) => Ok(Reply::Bytes(ByteText::new(text))),
+                Err(_) => Err(HostFault::Memory),
+            },
         }
     }
 

@@ -1,4 +1,4 @@
-use Rattle.std.proofs.Common.{refl, [], ⊥}
+use Rattle.std.proofs.Common.{refl, []}
 use Rattle.std.proofs.lemmas.Bool.{false≢true}
 use Rattle.cap_drive_trials.proofs.echo.EchoAnswering.answer.Goals as goal
 

@@ -48,7 +48,7 @@ fn push_frame(alloc: Global, bytes: &mut Vec<u8>, body: &[u8]) -> Result<(), All
     }
 }
 
-/// The bytes of a connection: frames of these words, joined by `+`; a word behind `=` is bytes in hexadecimal digits, and `*` as many frames of one byte as a
+/// The bytes of a connection: frames of these words, joined by `+`; a word behind `=` is bytes in hexadecimal digits, one behind `%` a frame of such bytes, and `*` as many frames of one byte as a
 /// connection may have, and one more.
 pub fn connection(alloc: Global, words: &str) -> Result<Vec<u8>, AllocError> {
     let mut bytes = Vec::new(alloc);
@@ -59,6 +59,10 @@ pub fn connection(alloc: Global, words: &str) -> Result<Vec<u8>, AllocError> {
             }
         } else if let Some(digits) = word.strip_prefix('=') {
             push_bytes(&mut bytes, digits.as_bytes())?;
+        } else if let Some(digits) = word.strip_prefix('%') {
+            let mut body = Vec::new(alloc);
+            push_bytes(&mut body, digits.as_bytes())?;
+            push_frame(alloc, &mut bytes, &body)?;
         } else {
             push_frame(alloc, &mut bytes, word.as_bytes())?;
         }

@@ -1,8 +1,10 @@
 // A run of the driver over connections in memory.
-ghost use Rattle.std.specs.Prelude.{◌≡◌, ◌<◌, ◌+◌, ◌^◌};
+ghost use Rattle.std.specs.Prelude.{◌≡◌, ◌<◌, ◌+◌, ◌^◌, false};
 
 use crate::echo::Echo;
+use crate::host::host_failing_at;
 use crate::row::{connection, number, numbers};
+use cap_answering::Answering;
 use cap_base::{FixedClock, MemSink};
 use cap_drive::serve_any;
 use cap_link::MemLink;
@@ -10,7 +12,7 @@ use std::alloc::{AllocError, Global};
 use std::str;
 
 // How many bytes of what was put are shown.
-const MOST_SHOWN: usize = 64;
+const MOST_SHOWN: usize = 400;
 
 fn text_of(bytes: &[u8]) -> &str {
     match str::from_utf8(bytes) {
@@ -39,16 +41,19 @@ fn puts(alloc: Global, link: &MemLink, connections: usize) -> Result<String, All
     Ok(text)
 }
 
-// Serves connections, and tells all that is seen of it.
-fn served(
+// Serves connections with an end, and tells all that is seen of it.
+fn served<A: Answering + Drop>(
     alloc: Global,
+    end: A,
     most: u64,
     first: u64,
-    openings: u64,
     named: &[u64],
     connections: Vec<Vec<u8>>,
 ) -> Result<String, AllocError>
-    requires { first + most < 2 ^ 64 }
+where
+    A::Journal: Drop,
+    requires works { A.has_failed end ≡ false }
+    requires numbers { first + most < 2 ^ 64 }
 {
     let count = connections.len();
     let mut link = MemLink::new(alloc, connections);
@@ -57,14 +62,29 @@ fn served(
     if link.fail_at(named).is_err() {
         return Err(AllocError);
     }
-    let host = Echo::new(alloc, openings);
-    let (end, opened, back) = serve_any(alloc, host, &mut link, &mut clock, &mut out, most, first);
+    let (why, opened, back) = serve_any(alloc, end, &mut link, &mut clock, &mut out, most, first);
     let back = if back.is_ok() { "on" } else { "shut" };
     let puts = puts(alloc, &link, count)?;
     format!(in alloc;
-        "{end:?}, opened {opened}, {back},{puts}\n{}",
+        "{why:?}, opened {opened}, {back},{puts}\n{}",
         text_of(out.bytes())
     )
+}
+
+// The connections that come.
+fn connections_of(alloc: Global, words: &[&str]) -> Result<Vec<Vec<u8>>, AllocError> {
+    let mut connections = Vec::new(alloc);
+    for words in words {
+        connections.push(connection(alloc, words)?)?;
+    }
+    Ok(connections)
+}
+
+// How many connections are served at most, or the number of the first line.
+fn few(word: &str) -> u64
+    ensures { result < 2 ^ 32 }
+{
+    number(word) % 1_000_001
 }
 
 /// `MOST FIRST OPENINGS FAILING CONNECTION ..`: at most so many connections, numbered from the first, an end that can be opened again so many times, the calls of the
@@ -74,11 +94,20 @@ pub fn serve(alloc: Global, words: &[&str]) -> Result<String, AllocError> {
         return format!(in alloc; "no such row\n");
     };
     let named = numbers(alloc, named)?;
-    let mut connections = Vec::new(alloc);
-    for words in bytes {
-        connections.push(connection(alloc, words)?)?;
+    let connections = connections_of(alloc, bytes)?;
+    let end = Echo::new(alloc, number(openings));
+    served(alloc, end, few(most), few(first), &named, connections)
+}
+
+/// The same with a host, where a call of its disk fails, in place of the end and its openings.
+pub fn serve_by_host(alloc: Global, words: &[&str]) -> Result<String, AllocError> {
+    let [most, first, call, named, bytes @ ..] = words else {
+        return format!(in alloc; "no such row\n");
+    };
+    let named = numbers(alloc, named)?;
+    let connections = connections_of(alloc, bytes)?;
+    match host_failing_at(alloc, number(call)) {
+        Some(host) => served(alloc, host, few(most), few(first), &named, connections),
+        None => format!(in alloc; "no host\n"),
     }
-    let most = number(most) % 1_000_001;
-    let first = number(first) % 1_000_001;
-    served(alloc, most, first, number(openings), &named, connections)
 }

@@ -4,7 +4,7 @@ use Rattle.std.specs.List.{AllByRecursion}
 use Rattle.std.proofs.lemmas.Bool.{cases_lt}
 use Rattle.std.proofs.lemmas.List.{length-take, length-append}
 use Rattle.cap_frame.specs.Frame.{IsBody, IsWhole, BeginsBad, stated_length, frame_of, frames_of, end_of, held_of}
-use Rattle.cap_frame.proofs.Streams.{stated_front, length_frame, end_good, end_least}
+use Rattle.cap_frame.specs.Streams.{stated_front, length_frame, end_good, end_least}
 use Rattle.cap_drive.specs.Going.{IsBegun}
 
 pub begun_short : (held : List ℕ) → length held < 4 → IsBegun held

@@ -3,7 +3,7 @@ use Rattle.std.proofs.Common.{◌≡◌, ◌⊎◌, inl, inr, ℕ, ◌<◌, List
 use Rattle.std.specs.List.{AllByRecursion}
 use Rattle.std.proofs.lemmas.List.{append-nil}
 use Rattle.cap_frame.specs.Frame.{IsBody, BeginsBad, HasNoFrame, Frames, stated_length, frame_of, frames_of}
-use Rattle.cap_frame.proofs.OneList.{frames_push, all_push}
+use Rattle.cap_frame.specs.OneList.{frames_push, all_push}
 use Rattle.cap_link.specs.Lines.{Lines, Line, Exchanges, HasNoneLeft, nothing, exchanges_more}
 use Rattle.cap_answering.specs.declared.reply.Reply.{Reply}
 use Rattle.cap_answering.specs.Steps.{EndState, working, steps_more}

@@ -10,6 +10,7 @@ use Rattle.cap_drive.specs.declared.closing.Closing.{Closing}
 use Rattle.cap_drive.specs.declared.closing.Closing.TheVariants.{End, Fault, BadLength, Disk, FrameLimit, Memory}
 use Rattle.cap_drive.specs.Frames.{Answered, replies_of, bodies_of, IsTold, Does, Tries}
 use Rattle.cap_drive.specs.Connections.{Ending, At_end, At_take, At_put, At_bad_length, At_disk, At_limit, Shut, Lacks, Lacks_to_put, Connection, events_of, moments_of, IsServed, IsEmptied}
+use Rattle.cap_drive.specs.Lines.{line_with}
 use Rattle.cap_drive.specs.Going.{act_of, moment_of, Tried}
 
 abbrev pub closing_of : Ending → Closing
@@ -22,9 +23,6 @@ closing_of At_limit = FrameLimit
 closing_of (Shut moment body) = Disk
 closing_of Lacks = Memory
 closing_of (Lacks_to_put a part rest) = Memory
-
-abbrev pub line_with : (number replied : ℕ) → (ending : List ℕ) → List ℕ
-line_with number replied ending = codes "connection " ++ decimal number ++ codes " frames " ++ decimal replied ++ ending ++ 10 ∷ []
 
 -- the line of a connection; none where memory lacked
 abbrev pub closing_line : (number replied : ℕ) → Closing → List ℕ

@@ -3,7 +3,8 @@ ghost use Rattle.std.specs.Prelude.{◌≡◌, ◌++◌, IfOk, string_bytes, cod
 ghost use Rattle.std.specs.Fmt.{decimal};
 ghost use Rattle.cap_base.specs.Causes.{HasPutCause};
 ghost use Rattle.cap_base.specs.Streams.{PutAppends};
-ghost use Rattle.cap_drive.specs.Closings.{line_with, closing_line};
+ghost use Rattle.cap_drive.specs.Lines.{line_with};
+ghost use Rattle.cap_drive.specs.Closings.{closing_line};
 
 use crate::closing::Closing;
 use cap_base::{PutError, Sink};

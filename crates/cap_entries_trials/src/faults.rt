@@ -10,8 +10,8 @@ use cap_journal::{DiskJournal, Journal, Reopen};
 use cap_journal_trials::Sample;
 use std::alloc::{AllocError, Global};
 
-// A group of three.
-fn three(alloc: Global) -> Result<Vec<Sample>, AllocError>
+/// A group of three.
+pub(crate) fn three(alloc: Global) -> Result<Vec<Sample>, AllocError>
     ensures { IfOk result (λ added. added.items ≡ Begin ∷ Completed ∷ Begin ∷ []) }
 {
     let mut added = Vec::new(alloc);
@@ -95,7 +95,8 @@ fn count_after(alloc: Global, fault: Fault, alone: bool) -> Option<(bool, u64)> 
     count.map(|count| (ok, count))
 }
 
-fn fill_of(word: &str) -> Fill {
+/// What a write that fails leaves in its range.
+pub(crate) fn fill_of(word: &str) -> Fill {
     match word {
         "old" => Fill::Old,
         "new" => Fill::New,

@@ -1,6 +1,7 @@
 // The file of a journal, to the byte.
 use crate::entries::entries;
 use crate::journals::{Trial, add, bytes_of, disk_with, new_journal};
+use crate::pages;
 use crate::words::{bytes_in, cut, hex, text};
 use cap_base::Memory;
 use cap_entries::TermEntry;
@@ -35,12 +36,13 @@ fn told(alloc: Global, count: Option<Result<u64, OpenCause>>) -> Result<String, 
     }
 }
 
-/// A file of a terminal's entries or of samples, opened.
+/// A file of a terminal's entries or of samples, opened; of samples also by a journal that is read through pages.
 pub(crate) fn open(alloc: Global, words: &str) -> Result<String, Memory> {
     let (of, word) = cut(words, ' ');
     let bytes = bytes_in(alloc, word)?;
     match of {
         "terminal" => told(alloc, opened::<TermEntry>(alloc, &bytes)),
+        "paged" => told(alloc, pages::opened(alloc, &bytes)),
         _ => told(alloc, opened::<Sample>(alloc, &bytes)),
     }
 }

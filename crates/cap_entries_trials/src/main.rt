@@ -2,6 +2,7 @@
 //! by one line. An empty line and one that begins with `#` are passed on.
 #![tactic(auto)]
 
+mod caches;
 mod counting;
 mod ends;
 mod entries;
@@ -10,6 +11,7 @@ mod files;
 mod hosts;
 mod items;
 mod journals;
+mod pages;
 mod records;
 mod rows;
 mod sales;

@@ -1,6 +1,6 @@
 // The cases by their first words.
 use crate::words::{cut, text};
-use crate::{counting, ends, faults, files, hosts, items, records, sales, sets};
+use crate::{caches, counting, ends, faults, files, hosts, items, pages, records, sales, sets};
 use cap_base::Memory;
 use std::alloc::{AllocError, Global};
 
@@ -44,6 +44,13 @@ fn file(alloc: Global, verb: &str, words: &str) -> Result<String, Memory> {
     }
 }
 
+fn paged(alloc: Global, verb: &str, words: &str) -> Result<String, Memory> {
+    match verb {
+        "paged" => pages::journal(alloc, words),
+        _ => caches::cache(alloc, words),
+    }
+}
+
 fn answer(alloc: Global, verb: &str, words: &str) -> Result<String, Memory> {
     match verb {
         "set" | "many" | "floor" | "setup" | "names" | "blocks" => set(alloc, verb, words),
@@ -52,6 +59,7 @@ fn answer(alloc: Global, verb: &str, words: &str) -> Result<String, Memory> {
         "file" | "samples" | "open" | "init" | "fault" | "ends" | "appends" => file(
             alloc, verb, words,
         ),
+        "paged" | "cache" => paged(alloc, verb, words),
         _ => text(alloc, "no such case"),
     }
 }

@@ -7,7 +7,7 @@ use Rattle.cap_msgs.specs.Report.{Report, Many, report_of}
 use Rattle.cap_entries.specs.Settings.{HostSettings}
 use Rattle.cap_entries.specs.declared.host.HostEntry.{HostEntry}
 use Rattle.cap_answering.specs.declared.fault.HostFault.{HostFault}
-use Rattle.cap_host_ledger.specs.Ledger as ledger
+use Rattle.cap_ledger.specs.Ledger as ledger
 use Rattle.cap_host.specs.declared.host.Host.{Host}
 
 -- the fault that a call answered, where it answered one

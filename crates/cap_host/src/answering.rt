@@ -56,7 +56,7 @@ impl<J: Reopen<HostEntry> + Drop> Answering for Host<J> {
 
     ghost kept = { λ host image tells works left. J.kept (journal_of host) image tells (host.ledger.works works) left };
 
-    ghost stands = { λ host image tells left. front_more (entries_in host_reading image) (entries_of host) (host.ledger.stands tells image left) };
+    ghost stands = { λ host image tells left. front_more (entries_in host_reading image) (entries_of host) (J.stands (journal_of host) image tells left) };
 
     ghost has_one = { λ image list other is also. cc (is, also) };
 

@@ -1,13 +1,13 @@
 ghost use Rattle.std.specs.Prelude.{◌≡◌, length, IsTrue};
-ghost use Rattle.cap_host_ledger.specs.Ledger.{is_readable, entries_in};
+ghost use Rattle.cap_ledger.specs.Ledger.{is_readable, entries_in};
 ghost use Rattle.cap_host.specs.Ties.{HostTies, ties_prop};
 
 use crate::terminal_name::TerminalName;
 use cap_base::{Ident, Totals};
 use cap_entries::{HostEntry, HostSetup, RowSet};
 use cap_host_index::LogIndex;
-use cap_host_ledger::Ledger;
 use cap_journal::Journal;
+use cap_ledger::Ledger;
 use indexmap::IndexSet;
 use std::alloc::Global;
 

@@ -3,7 +3,7 @@ ghost use Rattle.std.specs.Prelude.{◌≡◌, ◌≤◌, true, false, List, [],
 ghost use Rattle.cap_entries.specs.declared.host.HostEntry.{HostEntry};
 ghost use Rattle.cap_disk.specs.Disk.{LeavesOnly, StaysCounted};
 ghost use Rattle.cap_entries.specs.HostAllowed.{LegalHost, all_host_allowed};
-ghost use Rattle.cap_host_ledger.specs.Ledger.{entries_in, is_readable, OnlyReads};
+ghost use Rattle.cap_ledger.specs.Ledger.{entries_in, is_readable, OnlyReads};
 ghost use Rattle.cap_host.specs.Tables.{TablesTie};
 ghost use Rattle.cap_host.specs.Opening.{IsHostOpenCause, IsOpened, IsStart, IsFound, IsRefusal, open_fault_of};
 ghost use Rattle.cap_host.specs.Host.{entries_of, journal_of, has_failed, ending, fault_of};
@@ -15,8 +15,8 @@ use cap_answering::HostFault;
 use cap_base::Memory;
 use cap_entries::{HostEntry, HostJudge, HostSetup, RowSet};
 use cap_host_index::LogIndex;
-use cap_host_ledger::Ledger;
 use cap_journal::Journal;
+use cap_ledger::Ledger;
 use indexmap::IndexSet;
 use std::alloc::Global;
 

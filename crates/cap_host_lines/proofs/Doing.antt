@@ -18,7 +18,7 @@ use Rattle.cap_entries.specs.declared.host.HostEntry.{HostEntry}
 use Rattle.cap_entries.specs.declared.host.HostEntry.TheVariants.{Published}
 use Rattle.cap_entries.specs.HostRecord.{host_reading}
 use Rattle.cap_entries.specs.Log.{published}
-use Rattle.cap_host_ledger.specs.Ledger.{calls_for}
+use Rattle.cap_ledger.specs.Adding.{calls_for}
 use Rattle.cap_host_answers.specs.Received.{answer_received, place_named}
 use Rattle.cap_host.specs.declared.host.Host.{Host}
 use Rattle.cap_host.specs.declared.publishing.PublishFault.{PublishFault}

@@ -10,7 +10,7 @@ use Rattle.cap_journal.specs.Seen.{CountsTrying, IsTrying}
 use Rattle.cap_entries.specs.declared.host.HostEntry.{HostEntry}
 use Rattle.cap_entries.specs.declared.host.HostEntry.TheVariants.{Published}
 use Rattle.cap_entries.specs.Log.{published}
-use Rattle.cap_host_ledger.specs.Ledger.{calls_for}
+use Rattle.cap_ledger.specs.Adding.{calls_for}
 use Rattle.cap_answering.specs.declared.fault.HostFault.{HostFault}
 use Rattle.cap_answering.specs.declared.fault.HostFault.TheVariants as fault
 use Rattle.cap_host.specs.declared.host.Host.{Host}
@@ -73,7 +73,7 @@ module _ {J : Type 0} {g : Ghosts J HostEntry} where
         works = works;
         counts_are = t.added refl;
         past = λ within. ⊎_elim (not_disk tt) (not_memory tt) (t.goes_on (w.works, some_within added before within) within);
-        grown = adds.grown;
+        grown = adds.grown old.readable;
         each = all_new works told;
       }
   changed old new added (Some fault.Disk) before w adds all_old all_new now =
@@ -84,7 +84,7 @@ module _ {J : Type 0} {g : Ghosts J HostEntry} where
         within = (t.stopped refl).1;
         either = λ image left. ⊎_elim (λ earlier. inl (all_old image earlier)) (λ e. e) (images.each image (now image told images.later left));
       }
-  changed old new added (Some fault.Failed) before w adds all_old all_new now = let is = (adds.failed refl).0 in let works = w.works in cc
+  changed old new added (Some fault.Failed) before w adds all_old all_new now = let is = (adds.failed_before refl).0 in let works = w.works in cc
   changed old new added (Some fault.Memory) before w adds all_old all_new now = tt
 
   -- a call that adds nothing

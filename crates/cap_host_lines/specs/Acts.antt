@@ -13,7 +13,7 @@ use Rattle.cap_entries.specs.declared.host.HostEntry.{HostEntry}
 use Rattle.cap_entries.specs.declared.host.HostEntry.TheVariants.{Published}
 use Rattle.cap_entries.specs.HostRecord.{host_reading}
 use Rattle.cap_entries.specs.Log.{published}
-use Rattle.cap_host_ledger.specs.Ledger.{calls_for}
+use Rattle.cap_ledger.specs.Adding.{calls_for}
 use Rattle.cap_answering.specs.declared.fault.HostFault.{HostFault}
 use Rattle.cap_answering.specs.declared.fault.HostFault.TheVariants as fault
 use Rattle.cap_host.specs.declared.host.Host.{Host}

@@ -6,3 +6,4 @@ pub mod Kept
 pub mod Seen
 pub mod Group
 pub mod Reading
+pub mod OfDisk

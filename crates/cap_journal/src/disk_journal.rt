@@ -1,12 +1,13 @@
 // A journal over a disk, which keeps its entries in memory.
 ghost use Rattle.std.specs.Prelude.{◌≡◌, ◌≤◌, ◌<◌, ◌+◌, ◌*◌, ◌^◌, ℕ, List, [], length, Bool, false, Option, Some, IsTrue, vec_len, vec_capacity};
 ghost use Rattle.std.specs.Coded.{Coded-set, coded_option, coded_list, coded_ℕ, Π_prop};
-ghost use Rattle.cap_disk.specs.Disk.{HasRoom};
+ghost use Rattle.cap_disk.specs.Disk.{HasRoom, MayLeave};
+ghost use Rattle.cap_journal.specs.Kept.{EveryOne, HasFront};
 ghost use Rattle.cap_journal.specs.File.{entries_found, gates_found, end_found, journal_of};
 ghost use Rattle.cap_journal.specs.Spare.{bytes_for, entries_for};
 
 use crate::append::write_entries;
-use crate::settle::{Opened, format_disk, open_disk};
+use crate::settling::{Opened, format_disk, open_disk};
 use crate::{Journal, JournalError, OpenFault, Record, Reopen, Spare};
 use cap_base::Memory;
 use cap_disk::{Counted, Disk, Fill, MemoryDisk};
@@ -40,6 +41,7 @@ pub struct DiskJournal<E: Record, D: Disk> {
     ghost parsed: { IsTrue (D.tells disk) → failed ≡ false → entries_found (journal_of E.reading (D.contents disk).shown) ≡ Some entries.items } by { Π_prop (λ _. Π_prop (λ _. Coded-set (coded_option (coded_list E.code)) _ _)) },
     ghost placed: { IsTrue (D.tells disk) → failed ≡ false → gates_found (journal_of E.reading (D.contents disk).shown) ≡ Some gates.items } by { Π_prop (λ _. Π_prop (λ _. Coded-set (coded_option (coded_list coded_ℕ)) _ _)) },
     ghost last_gate: { IsTrue (D.tells disk) → failed ≡ false → end_found (journal_of E.reading (D.contents disk).shown) ≡ Some end },
+    ghost stands: { IsTrue (D.tells disk) → EveryOne (MayLeave (D.contents disk)) (HasFront E.reading entries.items) } by { Π_prop (λ _. Π_prop (λ _. Π_prop (λ _. Coded-set (coded_option (coded_list E.code)) _ _))) },
     ghost room: { HasRoom (bytes_for spare) (4 * entries_for spare) (D.room disk) },
     ghost entries_room: { vec_len entries + entries_for spare ≤ vec_capacity entries },
     ghost gates_room: { length entries.items + entries_for spare ≤ vec_capacity gates },
@@ -87,16 +89,6 @@ impl<E: Record, D: Disk> DiskJournal<E, D> {
     }
 }
 
-/// What stands on a disk.
-pub trait OnDisk<D> {
-    /// The disk.
-    ghost disk: { Self → D };
-}
-
-impl<E: Record, D: Disk> OnDisk<D> for DiskJournal<E, D> {
-    ghost disk = { λ journal. journal.disk };
-}
-
 impl<E: Record, D: Disk> Journal<E> for DiskJournal<E, D> {
     ghost use Rattle.std.specs.Prelude.{◌≡◌, ◌<◌, ◌≤◌, ◌+◌, ◌++◌, ◌∷◌, List, [], length, map, sum, All, true, false, OnOk, OnErr, IsErrOf, IsTrue};
     ghost use Rattle.cap_disk.specs.Disk.{MayLeave, LeavesOnly};
@@ -104,8 +96,12 @@ impl<E: Record, D: Disk> Journal<E> for DiskJournal<E, D> {
     ghost use Rattle.cap_journal.specs.Told.{IsCountedBy, HasAppendCause};
     ghost use Rattle.cap_journal.specs.File.{HasEither};
     ghost use Rattle.cap_journal.specs.Kept.{kept_by};
+    ghost use Rattle.std.proofs.Common.{refl, ◌∙◌};
+    ghost use Rattle.cap_disk.specs.Moments.{leaves_none};
 
     ghost entries = { λ journal. journal.entries.items };
+
+    ghost len = { λ journal. length journal.entries.items };
 
     ghost spare = { λ journal. journal.spare };
 
@@ -129,7 +125,15 @@ impl<E: Record, D: Disk> Journal<E> for DiskJournal<E, D> {
 
     ghost left_since = { λ journal. D.left_since journal.disk };
 
+    ghost counted = { λ journal readable. refl };
+
+    ghost told_is_readable = { λ journal tells. refl };
+
+    ghost settled = { λ journal image tells works left. leaves_none (D.contents journal.disk) image (journal.written tells works) left ∙ journal.synced tells works };
+
     ghost kept = { λ journal image tells works left. kept_by E.reading (D.contents journal.disk) journal.entries.items image (journal.written tells works) (journal.synced tells works) (journal.parsed tells works) left };
+
+    ghost stands = { λ journal image tells left. journal.stands tells image left };
 
     ghost counts_now = { λ journal t image tells le left. D.counts_now journal.disk t image tells le left };
 
@@ -201,6 +205,7 @@ impl<E: Record, D: Disk> Journal<E> for DiskJournal<E, D> {
         requires size { sum (map (λ entry. length (E.bytes_of entry)) added.items) ≤ 65536 }
         requires spare { Suffices (map (λ entry. length (E.bytes_of entry)) added.items) self.old.spare }
         ensures ok { OnOk result (self.new.entries.items ≡ self.old.entries.items ++ added.items) }
+        ensures len { OnOk result (length self.new.entries.items ≡ length self.old.entries.items + length added.items) }
         ensures err { OnErr result (self.new.entries.items ≡ self.old.entries.items) }
         ensures spare { OnOk result (Takes (map (λ entry. length (E.bytes_of entry)) added.items) self.old.spare self.new.spare) }
         ensures unspent { IsErrOf result JournalError.Failed → self.new.spare ≡ self.old.spare }
@@ -290,6 +295,7 @@ pub enum OpenCause {
 }
 
 impl<E: Record, D: Disk> DiskJournal<E, D> {
+    ghost use Rattle.cap_journal.specs.OfDisk.{counts_of, disk_of, entries_of, failed_of, faults_of, fetched_of, shown_of, spare_of, tells_of};
     ghost use Rattle.std.specs.Prelude.{◌≡◌, ◌≤◌, ◌<◌, ℕ, List, [], ◌∷◌, length, ⊤, IsTrue, IfOk, IfErr, Some, false};
     ghost use Rattle.cap_base.specs.Causes.{Rose};
     ghost use Rattle.cap_disk.specs.Disk.{MayLeave, LeavesOnly};
@@ -298,14 +304,14 @@ impl<E: Record, D: Disk> DiskJournal<E, D> {
 
     /// Formats an empty disk: one closed gate, and a sync. There is room for one entry of any size then.
     pub fn init(alloc: Global, disk: D) -> Result<DiskJournal<E, D>, OpenError<D>>
-        ensures entries { IfOk result (λ journal. ⟦<DiskJournal<E, D> as Journal<E>>⟧.entries journal ≡ []) }
-        ensures spare { IfOk result (λ journal. 1 ≤ (⟦<DiskJournal<E, D> as Journal<E>>⟧.spare journal).rows) }
-        ensures works { IfOk result (λ journal. ⟦<DiskJournal<E, D> as Journal<E>>⟧.has_failed journal ≡ false) }
-        ensures fetched { IfOk result (λ journal. ⟦<DiskJournal<E, D> as Journal<E>>⟧.fetched journal ≡ 0) }
-        ensures tells { IfOk result (λ journal. ⟦<DiskJournal<E, D> as Journal<E>>⟧.tells journal ≡ D.tells disk) }
-        ensures shown { IsTrue (D.tells disk) → IfOk result (λ journal. ⟦<DiskJournal<E, D> as Journal<E>>⟧.shown journal ≡ 0 ∷ []) }
-        ensures counts { IfOk result (λ journal. IsFormatting (D.counts disk) (⟦<DiskJournal<E, D> as Journal<E>>⟧.counts journal) ⊤ ⊥) }
-        ensures faults { IfOk result (λ journal. D.faults disk ≤ ⟦<DiskJournal<E, D> as Journal<E>>⟧.faults journal) }
+        ensures entries { IfOk result (λ journal. entries_of journal ≡ []) }
+        ensures spare { IfOk result (λ journal. 1 ≤ (spare_of journal).rows) }
+        ensures works { IfOk result (λ journal. failed_of journal ≡ false) }
+        ensures fetched { IfOk result (λ journal. fetched_of journal ≡ 0) }
+        ensures tells { IfOk result (λ journal. tells_of journal ≡ D.tells disk) }
+        ensures shown { IsTrue (D.tells disk) → IfOk result (λ journal. shown_of journal ≡ 0 ∷ []) }
+        ensures counts { IfOk result (λ journal. IsFormatting (D.counts disk) (counts_of journal) ⊤ ⊥) }
+        ensures faults { IfOk result (λ journal. D.faults disk ≤ faults_of journal) }
         ensures empty { IsTrue (D.tells disk) → IfOk result (λ journal. (D.contents disk).shown ≡ []) }
         ensures not_empty { IsTrue (D.tells disk) → (n : ℕ) → IfErr result (λ error. error.cause ≡ OpenCause.NotEmpty n → (n ≡ length (D.contents disk).shown) × (0 < n)) }
         ensures never_read { (place : ℕ) → IfErr result (λ error. error.cause ≡ OpenCause.Damaged place → ⊥) }
@@ -348,14 +354,14 @@ impl<E: Record, D: Disk> DiskJournal<E, D> {
 
     /// Opens a disk that holds a journal's file: one sync, one length, then reads alone.
     pub fn open(alloc: Global, disk: D) -> Result<DiskJournal<E, D>, OpenError<D>>
-        ensures entries { IsTrue (D.tells disk) → IfOk result (λ journal. Has E.reading (D.contents disk).shown (⟦<DiskJournal<E, D> as Journal<E>>⟧.entries journal)) }
-        ensures works { IfOk result (λ journal. ⟦<DiskJournal<E, D> as Journal<E>>⟧.has_failed journal ≡ false) }
-        ensures fetched { IfOk result (λ journal. ⟦<DiskJournal<E, D> as Journal<E>>⟧.fetched journal ≡ 0) }
-        ensures tells { IfOk result (λ journal. ⟦<DiskJournal<E, D> as Journal<E>>⟧.tells journal ≡ D.tells disk) }
-        ensures shown { IsTrue (D.tells disk) → IfOk result (λ journal. ⟦<DiskJournal<E, D> as Journal<E>>⟧.shown journal ≡ (D.contents disk).shown) }
-        ensures counts { IfOk result (λ journal. IsOpening (D.counts disk) (⟦<DiskJournal<E, D> as Journal<E>>⟧.counts journal) ⊤ ⊥ ⊥) }
-        ensures faults { IfOk result (λ journal. D.faults disk ≤ ⟦<DiskJournal<E, D> as Journal<E>>⟧.faults journal) }
-        ensures any_moment { IsTrue (D.tells disk) → IfOk result (λ journal. LeavesOnly D.moment D.left_since disk (⟦<DiskJournal<E, D> as OnDisk<D>>⟧.disk journal) (MayLeave (D.contents disk))) }
+        ensures entries { IsTrue (D.tells disk) → IfOk result (λ journal. Has E.reading (D.contents disk).shown (entries_of journal)) }
+        ensures works { IfOk result (λ journal. failed_of journal ≡ false) }
+        ensures fetched { IfOk result (λ journal. fetched_of journal ≡ 0) }
+        ensures tells { IfOk result (λ journal. tells_of journal ≡ D.tells disk) }
+        ensures shown { IsTrue (D.tells disk) → IfOk result (λ journal. shown_of journal ≡ (D.contents disk).shown) }
+        ensures counts { IfOk result (λ journal. IsOpening (D.counts disk) (counts_of journal) ⊤ ⊥ ⊥) }
+        ensures faults { IfOk result (λ journal. D.faults disk ≤ faults_of journal) }
+        ensures any_moment { IsTrue (D.tells disk) → IfOk result (λ journal. LeavesOnly D.moment D.left_since disk (disk_of journal) (MayLeave (D.contents disk))) }
         ensures empty { IsTrue (D.tells disk) → IfErr result (λ error. error.cause ≡ OpenCause.NotFormatted → (D.contents disk).shown ≡ []) }
         ensures damaged { IsTrue (D.tells disk) → (place : ℕ) → IfErr result (λ error. error.cause ≡ OpenCause.Damaged place → journal_of E.reading (D.contents disk).shown ≡ Damaged place) }
         ensures never_full { (n : ℕ) → IfErr result (λ error. error.cause ≡ OpenCause.NotEmpty n → ⊥) }
@@ -411,8 +417,8 @@ impl<E: Record, D: Disk> DiskJournal<E, D> {
 
     /// The place of the gate of the group that holds an entry, or of the last gate where the number is the count.
     pub fn place_of(&self, i: u64) -> u64
-        requires { i ≤ length (⟦<DiskJournal<E, D> as Journal<E>>⟧.entries self.now) }
-        ensures { IsTrue (⟦<DiskJournal<E, D> as Journal<E>>⟧.tells self.now) → ⟦<DiskJournal<E, D> as Journal<E>>⟧.has_failed self.now ≡ false → place_found i (journal_of E.reading (⟦<DiskJournal<E, D> as Journal<E>>⟧.shown self.now)) ≡ Some result }
+        requires { i ≤ length (entries_of self.now) }
+        ensures { IsTrue (tells_of self.now) → failed_of self.now ≡ false → place_found i (journal_of E.reading (shown_of self.now)) ≡ Some result }
     {
         let at = i as usize;
         if at < self.gates.len() {
@@ -424,42 +430,43 @@ impl<E: Record, D: Disk> DiskJournal<E, D> {
 
     /// Gives the disk back.
     pub fn into_disk(self) -> D
-        ensures { result ≡ ⟦<DiskJournal<E, D> as OnDisk<D>>⟧.disk self }
+        ensures { result ≡ disk_of self }
     {
         self.disk
     }
 }
 
 impl<E: Record> DiskJournal<E, MemoryDisk> {
+    ghost use Rattle.cap_journal.specs.OfDisk.{counts_of, disk_of, entries_of, failed_of, faults_of, fetched_of, spare_of};
     ghost use Rattle.std.specs.Prelude.{◌≡◌, true, false};
-    ghost use Rattle.cap_disk.specs.MemoryDisk.{plan_of, history_of, room_of, faults_of, cut_of, armed};
+    ghost use Rattle.cap_disk.specs.MemoryDisk.{plan_of, history_of, cut_of, armed};
 
     /// Lets the power be cut at a call of its disk, as the disk's own call does, and changes nothing else.
     pub fn arm_cut(&mut self, call: u64, fill: Fill, counted: Counted)
-        ensures history { history_of (⟦<DiskJournal<E, MemoryDisk> as OnDisk<MemoryDisk>>⟧.disk self.new) ≡ history_of (⟦<DiskJournal<E, MemoryDisk> as OnDisk<MemoryDisk>>⟧.disk self.old) }
-        ensures cut { cut_of (⟦<DiskJournal<E, MemoryDisk> as OnDisk<MemoryDisk>>⟧.disk self.new) ≡ cut_of (⟦<DiskJournal<E, MemoryDisk> as OnDisk<MemoryDisk>>⟧.disk self.old) }
-        ensures plan { plan_of (⟦<DiskJournal<E, MemoryDisk> as OnDisk<MemoryDisk>>⟧.disk self.new) ≡ record { left = call; cuts = true; fill = fill; counted = counted } }
-        ensures counts { ⟦<DiskJournal<E, MemoryDisk> as Journal<E>>⟧.counts self.new ≡ armed (⟦<DiskJournal<E, MemoryDisk> as OnDisk<MemoryDisk>>⟧.disk self.old) counted call }
-        ensures faults { ⟦<DiskJournal<E, MemoryDisk> as Journal<E>>⟧.faults self.new ≡ ⟦<DiskJournal<E, MemoryDisk> as Journal<E>>⟧.faults self.old }
-        ensures entries { ⟦<DiskJournal<E, MemoryDisk> as Journal<E>>⟧.entries self.new ≡ ⟦<DiskJournal<E, MemoryDisk> as Journal<E>>⟧.entries self.old }
-        ensures spare { ⟦<DiskJournal<E, MemoryDisk> as Journal<E>>⟧.spare self.new ≡ ⟦<DiskJournal<E, MemoryDisk> as Journal<E>>⟧.spare self.old }
-        ensures fetched { ⟦<DiskJournal<E, MemoryDisk> as Journal<E>>⟧.fetched self.new ≡ ⟦<DiskJournal<E, MemoryDisk> as Journal<E>>⟧.fetched self.old }
-        ensures has_failed { ⟦<DiskJournal<E, MemoryDisk> as Journal<E>>⟧.has_failed self.new ≡ ⟦<DiskJournal<E, MemoryDisk> as Journal<E>>⟧.has_failed self.old }
+        ensures history { history_of (disk_of self.new) ≡ history_of (disk_of self.old) }
+        ensures cut { cut_of (disk_of self.new) ≡ cut_of (disk_of self.old) }
+        ensures plan { plan_of (disk_of self.new) ≡ record { left = call; cuts = true; fill = fill; counted = counted } }
+        ensures counts { counts_of self.new ≡ armed (disk_of self.old) counted call }
+        ensures faults { faults_of self.new ≡ faults_of self.old }
+        ensures entries { entries_of self.new ≡ entries_of self.old }
+        ensures spare { spare_of self.new ≡ spare_of self.old }
+        ensures fetched { fetched_of self.new ≡ fetched_of self.old }
+        ensures has_failed { failed_of self.new ≡ failed_of self.old }
     {
         self.disk.arm_cut(call, fill, counted);
     }
 
     /// Lets one call of its disk fail, as the disk's own call does, and changes nothing else.
     pub fn arm_fail(&mut self, call: u64, fill: Fill, counted: Counted)
-        ensures history { history_of (⟦<DiskJournal<E, MemoryDisk> as OnDisk<MemoryDisk>>⟧.disk self.new) ≡ history_of (⟦<DiskJournal<E, MemoryDisk> as OnDisk<MemoryDisk>>⟧.disk self.old) }
-        ensures cut { cut_of (⟦<DiskJournal<E, MemoryDisk> as OnDisk<MemoryDisk>>⟧.disk self.new) ≡ cut_of (⟦<DiskJournal<E, MemoryDisk> as OnDisk<MemoryDisk>>⟧.disk self.old) }
-        ensures plan { plan_of (⟦<DiskJournal<E, MemoryDisk> as OnDisk<MemoryDisk>>⟧.disk self.new) ≡ record { left = call; cuts = false; fill = fill; counted = counted } }
-        ensures counts { ⟦<DiskJournal<E, MemoryDisk> as Journal<E>>⟧.counts self.new ≡ armed (⟦<DiskJournal<E, MemoryDisk> as OnDisk<MemoryDisk>>⟧.disk self.old) counted call }
-        ensures faults { ⟦<DiskJournal<E, MemoryDisk> as Journal<E>>⟧.faults self.new ≡ ⟦<DiskJournal<E, MemoryDisk> as Journal<E>>⟧.faults self.old }
-        ensures entries { ⟦<DiskJournal<E, MemoryDisk> as Journal<E>>⟧.entries self.new ≡ ⟦<DiskJournal<E, MemoryDisk> as Journal<E>>⟧.entries self.old }
-        ensures spare { ⟦<DiskJournal<E, MemoryDisk> as Journal<E>>⟧.spare self.new ≡ ⟦<DiskJournal<E, MemoryDisk> as Journal<E>>⟧.spare self.old }
-        ensures fetched { ⟦<DiskJournal<E, MemoryDisk> as Journal<E>>⟧.fetched self.new ≡ ⟦<DiskJournal<E, MemoryDisk> as Journal<E>>⟧.fetched self.old }
-        ensures has_failed { ⟦<DiskJournal<E, MemoryDisk> as Journal<E>>⟧.has_failed self.new ≡ ⟦<DiskJournal<E, MemoryDisk> as Journal<E>>⟧.has_failed self.old }
+        ensures history { history_of (disk_of self.new) ≡ history_of (disk_of self.old) }
+        ensures cut { cut_of (disk_of self.new) ≡ cut_of (disk_of self.old) }
+        ensures plan { plan_of (disk_of self.new) ≡ record { left = call; cuts = false; fill = fill; counted = counted } }
+        ensures counts { counts_of self.new ≡ armed (disk_of self.old) counted call }
+        ensures faults { faults_of self.new ≡ faults_of self.old }
+        ensures entries { entries_of self.new ≡ entries_of self.old }
+        ensures spare { spare_of self.new ≡ spare_of self.old }
+        ensures fetched { fetched_of self.new ≡ fetched_of self.old }
+        ensures has_failed { failed_of self.new ≡ failed_of self.old }
     {
         self.disk.arm_fail(call, fill, counted);
     }

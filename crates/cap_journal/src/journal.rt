@@ -2,6 +2,7 @@
 ghost use Rattle.std.specs.Prelude.{◌≡◌, ◌≤◌, ◌<◌, ◌+◌, ◌-◌, ◌^◌, ◌++◌, min, ℕ, List, [], ◌∷◌, length, map, All, sum, Bool, true, false, Option, Some, IsTrue, IsOk, IfOk, OnOk, OnErr, IsErrOf, slice_get};
 ghost use Rattle.cap_base.specs.Causes.{Rose};
 ghost use Rattle.cap_disk.specs.Disk.{Counts, LeavesOnly, StaysCounted};
+ghost use Rattle.cap_journal.specs.Kept.{HasFront};
 ghost use Rattle.cap_journal.specs.File.{journal_of, Found, NotFormatted, Damaged, Has, HasEither};
 ghost use Rattle.cap_journal.specs.Spare.{Suffices, Takes, NoLower};
 ghost use Rattle.cap_journal.specs.declared.spare.Spare.{Spare};
@@ -63,8 +64,12 @@ impl From<AllocError> for OpenFault {
 /// An append or a group that answers Ok stands in every image that a crash may leave; at every moment of the call, and after its `Disk`,
 /// every image has the entries from before it, or those with all the new ones.
 pub trait Journal<E: Record> {
-    /// The list of entries.
+    /// The list of entries. What a call says of it counts where `is_readable` holds: a journal that keeps no entries in memory, over a disk that
+    /// tells nothing, has no list to speak of.
     ghost entries: { Self → List E };
+
+    /// How many entries there are, over any disk.
+    ghost len: { Self → ℕ };
 
     /// The room for further entries.
     ghost spare: { Self → Spare };
@@ -81,7 +86,8 @@ pub trait Journal<E: Record> {
     /// Whether `append` would now answer `Failed`.
     ghost has_failed: { Self → Bool };
 
-    /// Whether `entry` gives the entry of the list.
+    /// Whether `entry` gives the entries of the list: the journal keeps them in memory, or it is over an honest disk that tells its contents. No
+    /// call changes this.
     ghost is_readable: { Self → Bool };
 
     /// Whether contracts see its images: it is over an honest disk.
@@ -101,11 +107,11 @@ pub trait Journal<E: Record> {
 
     /// How many entries there are.
     fn count(&self) -> u64
-        ensures { result ≡ length (entries self.now) };
+        ensures { result ≡ len self.now };
 
-    /// Gives an entry; they count from 0. `Memory` also comes where the journal no longer reads what was written.
+    /// Gives an entry; they count from 0. Where the entries aren't readable, `Memory` also comes where the bytes at its place are no record.
     fn entry(&mut self, i: u64) -> Result<E, JournalError>
-        requires { i < length (entries self.old) }
+        requires { i < len self.old }
         ensures value { IsTrue (is_readable self.old) → IfOk result (λ e. slice_get (entries self.old) i ≡ Some e) }
         ensures fetched { fetched self.new ≡ min (fetched self.old + 1) (2 ^ 64 - 1) }
         ensures disk { IsErrOf result JournalError.Disk → Rose (faults self.old) (faults self.new) }
@@ -113,6 +119,7 @@ pub trait Journal<E: Record> {
         ensures counts { StaysCounted (counts self.old) (counts self.new) }
         ensures quiet { IsQuiet (counts self.old) (IsErrOf result JournalError.Disk) }
         ensures entries { entries self.new ≡ entries self.old }
+        ensures len { len self.new ≡ len self.old }
         ensures spare { spare self.new ≡ spare self.old }
         ensures faults { faults self.old ≤ faults self.new }
         ensures has_failed { has_failed self.new ≡ has_failed self.old }
@@ -126,6 +133,7 @@ pub trait Journal<E: Record> {
         ensures ok { OnOk result (n ≤ (spare self.new).small) }
         ensures spare { NoLower (spare self.old) (spare self.new) }
         ensures entries { entries self.new ≡ entries self.old }
+        ensures len { len self.new ≡ len self.old }
         ensures fetched { fetched self.new ≡ fetched self.old }
         ensures faults { faults self.new ≡ faults self.old }
         ensures counts { StaysCounted (counts self.old) (counts self.new) }
@@ -140,6 +148,7 @@ pub trait Journal<E: Record> {
         ensures ok { OnOk result (1 ≤ (spare self.new).rows) }
         ensures spare { NoLower (spare self.old) (spare self.new) }
         ensures entries { entries self.new ≡ entries self.old }
+        ensures len { len self.new ≡ len self.old }
         ensures fetched { fetched self.new ≡ fetched self.old }
         ensures faults { faults self.new ≡ faults self.old }
         ensures counts { StaysCounted (counts self.old) (counts self.new) }
@@ -153,8 +162,10 @@ pub trait Journal<E: Record> {
     fn append(&mut self, entry: E) -> Result<(), JournalError>
         requires fits { IsTrue (E.fits entry) }
         requires spare { Suffices (length (E.bytes_of entry) ∷ []) (spare self.old) }
-        ensures ok { OnOk result (entries self.new ≡ entries self.old ++ entry ∷ []) }
+        ensures ok { IsTrue (is_readable self.old) → OnOk result (entries self.new ≡ entries self.old ++ entry ∷ []) }
         ensures err { OnErr result (entries self.new ≡ entries self.old) }
+        ensures len { OnOk result (len self.new ≡ len self.old + 1) }
+        ensures err_len { OnErr result (len self.new ≡ len self.old) }
         ensures spare { OnOk result (Takes (length (E.bytes_of entry) ∷ []) (spare self.old) (spare self.new)) }
         ensures unspent { IsErrOf result JournalError.Failed → spare self.new ≡ spare self.old }
         ensures cause { HasAppendCause (has_failed self.old) (has_failed self.new) (faults self.old) (faults self.new) result }
@@ -171,8 +182,10 @@ pub trait Journal<E: Record> {
         requires fits { All (λ entry. IsTrue (E.fits entry)) added.items }
         requires size { sum (map (λ entry. length (E.bytes_of entry)) added.items) ≤ 65536 }
         requires spare { Suffices (map (λ entry. length (E.bytes_of entry)) added.items) (spare self.old) }
-        ensures ok { OnOk result (entries self.new ≡ entries self.old ++ added.items) }
+        ensures ok { IsTrue (is_readable self.old) → OnOk result (entries self.new ≡ entries self.old ++ added.items) }
         ensures err { OnErr result (entries self.new ≡ entries self.old) }
+        ensures len { OnOk result (len self.new ≡ len self.old + length added.items) }
+        ensures err_len { OnErr result (len self.new ≡ len self.old) }
         ensures spare { OnOk result (Takes (map (λ entry. length (E.bytes_of entry)) added.items) (spare self.old) (spare self.new)) }
         ensures unspent { IsErrOf result JournalError.Failed → spare self.new ≡ spare self.old }
         ensures cause { HasAppendCause (has_failed self.old) (has_failed self.new) (faults self.old) (faults self.new) result }
@@ -183,8 +196,20 @@ pub trait Journal<E: Record> {
         ensures any_moment { IsTrue (tells self.old) → has_failed self.old ≡ false → LeavesOnly moment left_since self.old self.new (HasEither E.reading (entries self.old) (entries self.old ++ added.items)) }
         ensures refused { IsTrue (tells self.old) → IsErrOf result JournalError.Failed → LeavesOnly moment left_since self.old self.new (may_leave self.old) };
 
+    /// Where the entries are readable, they are so many.
+    ghost counted: { (journal : Self) → IsTrue (is_readable journal) → len journal ≡ length (entries journal) };
+
+    /// A journal whose images contracts see is readable.
+    ghost told_is_readable: { (journal : Self) → IsTrue (tells journal) → IsTrue (is_readable journal) };
+
+    /// Where no call has failed, a crash leaves what a read gives.
+    ghost settled: { (journal : Self) (image : List ℕ) → IsTrue (tells journal) → has_failed journal ≡ false → may_leave journal image → image ≡ shown journal };
+
     /// Where no call has failed, every image has exactly the entries.
     ghost kept: { (journal : Self) (image : List ℕ) → IsTrue (tells journal) → has_failed journal ≡ false → may_leave journal image → Has E.reading image (entries journal) };
+
+    /// Every image has the entries at its head, whether a call has failed or not.
+    ghost stands: { (journal : Self) (image : List ℕ) → IsTrue (tells journal) → may_leave journal image → HasFront E.reading (entries journal) image };
 
     /// This moment is one of those since an earlier one.
     ghost counts_now: { (journal : Self) (t : ℕ) (image : List ℕ) → IsTrue (tells journal) → t ≤ moment journal → may_leave journal image → left_since journal t image };
@@ -204,6 +229,7 @@ pub trait Reopen<E: Record>: Journal<E> {
         ensures ok { OnOk result (Self.has_failed self.new ≡ false) }
         ensures entries { IsTrue (Self.tells self.old) → OnOk result (Has E.reading (Self.shown self.old) (Self.entries self.new)) }
         ensures refused { OnErr result (Self.entries self.new ≡ Self.entries self.old) }
+        ensures len { OnErr result (Self.len self.new ≡ Self.len self.old) }
         ensures empty { IsTrue (Self.tells self.old) → IsErrOf result OpenFault.NotFormatted → Self.shown self.old ≡ [] }
         ensures not_formatted { IsTrue (Self.tells self.old) → IsErrOf result OpenFault.NotFormatted → journal_of E.reading (Self.shown self.old) ≡ NotFormatted }
         ensures damaged { IsTrue (Self.tells self.old) → (place : ℕ) → IsErrOf result (OpenFault.Damaged place) → journal_of E.reading (Self.shown self.old) ≡ Damaged place }

@@ -22,6 +22,7 @@ impl<E: Record> VecJournal<E> {
     /// An empty journal.
     pub fn new(alloc: Global) -> Result<VecJournal<E>, Memory>
         ensures entries { IfOk result (λ journal. ⟦<VecJournal<E> as Journal<E>>⟧.entries journal ≡ []) }
+        ensures len { IfOk result (λ journal. ⟦<VecJournal<E> as Journal<E>>⟧.len journal ≡ 0) }
         ensures fetched { IfOk result (λ journal. ⟦<VecJournal<E> as Journal<E>>⟧.fetched journal ≡ 0) }
     {
         Ok(VecJournal {
@@ -52,9 +53,12 @@ impl<E: Record> VecJournal<E> {
 impl<E: Record> Journal<E> for VecJournal<E> {
     ghost use Rattle.std.specs.Prelude.{◌≡◌, ◌<◌, ◌≤◌, ◌+◌, ◌++◌, [], length, map, sum, All, true, false, None, OnOk, OnErr, IsErrOf, IsTrue};
     ghost use Rattle.cap_journal.specs.Spare.{Suffices, Takes};
+    ghost use Rattle.std.proofs.Common.{refl};
     ghost use Rattle.cap_journal.specs.Kept.{untold};
 
     ghost entries = { λ journal. journal.items.items };
+
+    ghost len = { λ journal. length journal.items.items };
 
     ghost spare = { λ journal. journal.spare };
 
@@ -78,7 +82,15 @@ impl<E: Record> Journal<E> for VecJournal<E> {
 
     ghost left_since = { λ _ _ _. ⊥ };
 
+    ghost counted = { λ journal readable. refl };
+
+    ghost told_is_readable = { λ journal tells. refl };
+
+    ghost settled = { λ journal image tells works left. absurd left };
+
     ghost kept = { λ journal image tells works left. absurd left };
+
+    ghost stands = { λ journal image tells left. absurd left };
 
     ghost counts_now = { λ journal t image tells le left. left };
 
@@ -130,6 +142,7 @@ impl<E: Record> Journal<E> for VecJournal<E> {
         requires size { sum (map (λ entry. length (E.bytes_of entry)) added.items) ≤ 65536 }
         requires spare { Suffices (map (λ entry. length (E.bytes_of entry)) added.items) self.old.spare }
         ensures ok { OnOk result (self.new.items.items ≡ self.old.items.items ++ added.items) }
+        ensures len { OnOk result (length self.new.items.items ≡ length self.old.items.items + length added.items) }
         ensures works { OnErr result ⊥ }
         ensures spare { OnOk result (Takes (map (λ entry. length (E.bytes_of entry)) added.items) self.old.spare self.new.spare) }
         ensures fetched { self.new.fetched ≡ self.old.fetched }

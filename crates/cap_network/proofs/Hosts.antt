@@ -12,7 +12,7 @@ use Rattle.cap_disk.specs.declared.memory.MemoryDisk.{MemoryDisk}
 use Rattle.cap_entries.specs.declared.terminal.TermEntry.{TermEntry}
 use Rattle.cap_entries.specs.declared.host.HostEntry.{HostEntry}
 use Rattle.cap_entries.specs.Log.{published}
-use Rattle.cap_host_ledger.specs.Ledger.{calls_for}
+use Rattle.cap_ledger.specs.Adding.{calls_for}
 use Rattle.cap_schedule.specs.declared.outcome.Outcome.{Outcome}
 use Rattle.cap_schedule.specs.declared.schedule.End.TheVariants.{Host, Terminal}
 use Rattle.cap_schedule.specs.declared.schedule.HostOrder.{HostOrder}

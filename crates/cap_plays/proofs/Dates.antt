@@ -37,7 +37,7 @@ use Rattle.cap_schedule.specs.declared.schedule.Schedule.{Schedule}
 use Rattle.cap_schedule.specs.Outcomes.{outcome_lines}
 use Rattle.cap_answering.specs.Steps.{Acts, Interrupted}
 use Rattle.cap_world.specs.World.{TerminalState, HostState, At_host, Answers, Answers_foreign, delivered, started}
-use Rattle.cap_host_ledger.specs.Ledger.{calls_for}
+use Rattle.cap_ledger.specs.Adding.{calls_for}
 use Rattle.cap_plays.specs.Turns.{Scene, counted_at, nth, Work, worked, Turn, behind, next_sale, next_period, begins, offline_turn, sends, sends_head, hears_it, hears, turn_of, HostWork, HostTurn, replies_with, answers_it, answers_terminal, host_turn_of}
 use Rattle.cap_plays.specs.Plays.{Doubt, Made, in_doubt, host_interrupted, interrupted, reopened, left_off, with_host, with_terminal, places_from, noted, arrived, made, all_made, host_made, opens, host_opens, Plan, terminal_is_on, is_on, terminal_plan, fails_first, moment_of, plan_of_turn, plan_of_host_turn, plan_of_opening, plan, acting, Fate, fate_behind, fate_whole, fate_in, fate_after, terminal_off, off_at, fate_cut_after, fate_of, passed, is_possible, fate, Doubts, doubt_at, with_doubt, Played, play_behind, opening_plan, closing_fate, silently_behind, terminals_from, ends_of, Does, AreDates, reopen_least, play_least, least_play, first_scene, first_doubts}
 use Rattle.cap_plays.specs.Report.{end_text, ends_text, report}

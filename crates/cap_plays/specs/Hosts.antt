@@ -9,7 +9,7 @@ use Rattle.cap_msgs.specs.Moment.{IsMoment}
 use Rattle.cap_msgs.specs.declared.message.Message.{Message}
 use Rattle.cap_entries.specs.declared.terminal.TermEntry.{TermEntry}
 use Rattle.cap_entries.specs.declared.host.HostEntry.{HostEntry}
-use Rattle.cap_host_ledger.specs.Ledger.{calls_for}
+use Rattle.cap_ledger.specs.Adding.{calls_for}
 use Rattle.cap_schedule.specs.declared.outcome.Outcome.{Outcome}
 use Rattle.cap_schedule.specs.declared.outcome.Outcome.TheVariants.{DiskFailed}
 use Rattle.cap_schedule.specs.declared.schedule.End.TheVariants.{Host, Terminal}

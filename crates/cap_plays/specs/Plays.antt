@@ -5,7 +5,7 @@ use Rattle.cap_msgs.specs.declared.message.Message.{Message}
 use Rattle.cap_msgs.specs.Received.{Received}
 use Rattle.cap_msgs.specs.Moment.{IsMoment}
 use Rattle.cap_entries.specs.Settings.{TerminalSettings}
-use Rattle.cap_host_ledger.specs.Ledger.{calls_for}
+use Rattle.cap_ledger.specs.Adding.{calls_for}
 use Rattle.cap_schedule.specs.declared.outcome.Outcome.{Outcome}
 use Rattle.cap_schedule.specs.declared.outcome.Outcome.TheVariants.{IsOff, WasCut, DiskFailed, Restarted}
 use Rattle.cap_schedule.specs.declared.schedule.End.{End}

@@ -3,3 +3,4 @@ pub mod Prefixes
 pub mod Images
 pub mod Standing
 pub mod Fates
+pub mod Words

@@ -3,13 +3,15 @@ ghost use Rattle.std.specs.Prelude.{◌≡◌, ℕ, false, Option, Some, None, I
 ghost use Rattle.cap_disk.specs.Disk.{Counts};
 ghost use Rattle.cap_disk.specs.Switch.{stop_of};
 ghost use Rattle.cap_disk.specs.MemoryDisk.{told_of};
+ghost use Rattle.cap_journal.specs.OfDisk.{disk_of, failed_of, entries_of};
+ghost use Rattle.cap_power.specs.Words.{HasCounted};
 ghost use Rattle.cap_power.specs.Counting.{Counting, CountsFromOne};
 ghost use Rattle.cap_power.specs.Images.{NoOthers};
 
 use crate::OverDisk;
 use cap_base::Memory;
 use cap_disk::{Counted, Fill, MemoryDisk};
-use cap_journal::{DiskJournal, Journal, OnDisk, Record};
+use cap_journal::{DiskJournal, Journal, Record};
 use cap_schedule::Prefix;
 use std::alloc::Global;
 
@@ -20,10 +22,10 @@ pub(crate) fn arm_journal<E: Record>(
     fill: Fill,
     cuts: bool,
 ) -> DiskJournal<E, MemoryDisk>
-    ensures entries { ⟦<DiskJournal<E, MemoryDisk> as Journal<E>>⟧.entries result ≡ ⟦<DiskJournal<E, MemoryDisk> as Journal<E>>⟧.entries journal }
-    ensures has_failed { ⟦<DiskJournal<E, MemoryDisk> as Journal<E>>⟧.has_failed result ≡ ⟦<DiskJournal<E, MemoryDisk> as Journal<E>>⟧.has_failed journal }
-    ensures images { NoOthers (⟦<DiskJournal<E, MemoryDisk> as OnDisk<MemoryDisk>>⟧.disk journal) (⟦<DiskJournal<E, MemoryDisk> as OnDisk<MemoryDisk>>⟧.disk result) }
-    ensures counts { (c : Counts) → told_of (⟦<DiskJournal<E, MemoryDisk> as OnDisk<MemoryDisk>>⟧.disk journal) ≡ Some c → told_of (⟦<DiskJournal<E, MemoryDisk> as OnDisk<MemoryDisk>>⟧.disk result) ≡ Some (record { calls = c.calls; stop = stop_of c.calls call }) }
+    ensures entries { entries_of result ≡ entries_of journal }
+    ensures has_failed { failed_of result ≡ failed_of journal }
+    ensures images { NoOthers (disk_of journal) (disk_of result) }
+    ensures counts { (c : Counts) → told_of (disk_of journal) ≡ Some c → HasCounted c.calls (stop_of c.calls call) (disk_of result) }
 {
     let mut journal = journal;
     if cuts {
@@ -73,7 +75,7 @@ pub fn disarmed<E: Record, T: OverDisk<E>>(alloc: Global, end: T) -> Result<T, M
     ensures entries { IfOk result (λ now. T.entries now ≡ T.entries end) }
     ensures works { IfOk result (λ now. T.has_failed now ≡ false) }
     ensures images { IfOk result (λ now. NoOthers (T.disk end) (T.disk now)) }
-    ensures counts { (calls : ℕ) (stop : Option ℕ) → told_of (T.disk end) ≡ Some (record { calls = calls; stop = stop }) → IfOk result (λ now. told_of (T.disk now) ≡ Some (record { calls = calls; stop = None })) }
+    ensures counts { (calls : ℕ) (stop : Option ℕ) → HasCounted calls stop (T.disk end) → IfOk result (λ now. HasCounted calls None (T.disk now)) }
 {
     end.arm(alloc, 0, Fill::Old, false)
 }

@@ -4,10 +4,12 @@ ghost use Rattle.cap_disk.specs.Disk.{Counts, StaysCounted};
 ghost use Rattle.cap_disk.specs.Switch.{stop_of};
 ghost use Rattle.cap_disk.specs.MemoryDisk.{contents_of, told_of};
 ghost use Rattle.cap_entries.specs.HostRecord.{host_reading};
+ghost use Rattle.cap_journal.specs.OfDisk.{disk_of, failed_of, entries_of as journal_entries};
 ghost use Rattle.cap_journal.specs.File.{Has};
 ghost use Rattle.cap_journal.specs.Kept.{kept_by};
 ghost use Rattle.cap_journal.specs.Told.{StopsWithin};
 ghost use Rattle.cap_host.specs.Host.{journal_of, entries_of, has_failed as host_has_failed};
+ghost use Rattle.cap_power.specs.Words.{HasCounted, OnGivenBack, OnOpened, StopsInTwo};
 ghost use Rattle.cap_power.specs.Images.{images_of, NoOthers};
 
 use crate::OverDisk;
@@ -17,7 +19,7 @@ use cap_base::Memory;
 use cap_disk::{Fill, MemoryDisk};
 use cap_entries::HostEntry;
 use cap_host::Host;
-use cap_journal::{DiskJournal, Journal, OnDisk};
+use cap_journal::{DiskJournal, Journal};
 use std::alloc::Global;
 
 // Opens the host over a journal that works. No device call is counted in it, and it leaves no other image.
@@ -25,11 +27,11 @@ fn host_over(
     alloc: Global,
     journal: DiskJournal<HostEntry, MemoryDisk>,
 ) -> Result<Host<DiskJournal<HostEntry, MemoryDisk>>, Memory>
-    requires { ⟦<DiskJournal<HostEntry, MemoryDisk> as Journal<HostEntry>>⟧.has_failed journal ≡ false }
-    ensures entries { IfOk result (λ end. entries_of end ≡ ⟦<DiskJournal<HostEntry, MemoryDisk> as Journal<HostEntry>>⟧.entries journal) }
+    requires { failed_of journal ≡ false }
+    ensures entries { IfOk result (λ end. entries_of end ≡ journal_entries journal) }
     ensures works { IfOk result (λ end. host_has_failed end ≡ false) }
-    ensures counts { IfOk result (λ end. StaysCounted (told_of (⟦<DiskJournal<HostEntry, MemoryDisk> as OnDisk<MemoryDisk>>⟧.disk journal)) (told_of (⟦<DiskJournal<HostEntry, MemoryDisk> as OnDisk<MemoryDisk>>⟧.disk (journal_of end)))) }
-    ensures images { IfOk result (λ end. NoOthers (⟦<DiskJournal<HostEntry, MemoryDisk> as OnDisk<MemoryDisk>>⟧.disk journal) (⟦<DiskJournal<HostEntry, MemoryDisk> as OnDisk<MemoryDisk>>⟧.disk (journal_of end))) }
+    ensures counts { IfOk result (λ end. StaysCounted (told_of (disk_of journal)) (told_of (disk_of (journal_of end)))) }
+    ensures images { IfOk result (λ end. NoOthers (disk_of journal) (disk_of (journal_of end))) }
 {
     match Host::open(alloc, journal) {
         Ok(host) => Ok(host),
@@ -45,11 +47,11 @@ fn host_armed(
     fill: Fill,
     cuts: bool,
 ) -> Result<Host<DiskJournal<HostEntry, MemoryDisk>>, Memory>
-    requires { ⟦<DiskJournal<HostEntry, MemoryDisk> as Journal<HostEntry>>⟧.has_failed journal ≡ false }
-    ensures entries { IfOk result (λ end. entries_of end ≡ ⟦<DiskJournal<HostEntry, MemoryDisk> as Journal<HostEntry>>⟧.entries journal) }
+    requires { failed_of journal ≡ false }
+    ensures entries { IfOk result (λ end. entries_of end ≡ journal_entries journal) }
     ensures works { IfOk result (λ end. host_has_failed end ≡ false) }
-    ensures images { IfOk result (λ end. NoOthers (⟦<DiskJournal<HostEntry, MemoryDisk> as OnDisk<MemoryDisk>>⟧.disk journal) (⟦<DiskJournal<HostEntry, MemoryDisk> as OnDisk<MemoryDisk>>⟧.disk (journal_of end))) }
-    ensures counts { (c : Counts) → told_of (⟦<DiskJournal<HostEntry, MemoryDisk> as OnDisk<MemoryDisk>>⟧.disk journal) ≡ Some c → IfOk result (λ end. told_of (⟦<DiskJournal<HostEntry, MemoryDisk> as OnDisk<MemoryDisk>>⟧.disk (journal_of end)) ≡ Some (record { calls = c.calls; stop = stop_of c.calls call })) }
+    ensures images { IfOk result (λ end. NoOthers (disk_of journal) (disk_of (journal_of end))) }
+    ensures counts { (c : Counts) → told_of (disk_of journal) ≡ Some c → IfOk result (λ end. HasCounted c.calls (stop_of c.calls call) (disk_of (journal_of end))) }
 {
     host_over(alloc, arm_journal(journal, call, fill, cuts))
 }
@@ -57,20 +59,20 @@ fn host_armed(
 impl OverDisk<HostEntry> for Host<DiskJournal<HostEntry, MemoryDisk>> {
     ghost entries = { λ host. entries_of host };
 
-    ghost disk = { λ host. ⟦<DiskJournal<HostEntry, MemoryDisk> as OnDisk<MemoryDisk>>⟧.disk (journal_of host) };
+    ghost disk = { λ host. disk_of (journal_of host) };
 
     ghost has_failed = { λ host. host_has_failed host };
 
     ghost kept = { λ host image works left. kept_by host_reading (contents_of (journal_of host).disk) (journal_of host).entries.items image ((journal_of host).written refl (host.ledger.works works)) ((journal_of host).synced refl (host.ledger.works works)) ((journal_of host).parsed refl (host.ledger.works works)) left };
 
     fn open(alloc: Global, file: MemoryDisk) -> Result<Result<Self, MemoryDisk>, Memory>
-        ensures entries { IfOk result (λ tried. IfOk tried (λ end. Has host_reading (contents_of file).shown (entries_of end))) }
-        ensures works { IfOk result (λ tried. IfOk tried (λ end. host_has_failed end ≡ false)) }
-        ensures images { IfOk result (λ tried. MatchResult tried (λ end. NoOthers file (⟦<DiskJournal<HostEntry, MemoryDisk> as OnDisk<MemoryDisk>>⟧.disk (journal_of end))) (λ back. NoOthers file back)) }
-        ensures counts { (stop : Option ℕ) → told_of file ≡ Some (record { calls = 0; stop = stop }) → IfOk result (λ tried. IfOk tried (λ end. told_of (⟦<DiskJournal<HostEntry, MemoryDisk> as OnDisk<MemoryDisk>>⟧.disk (journal_of end)) ≡ Some (record { calls = 2; stop = stop }))) }
-        ensures goes_on { (stop : Option ℕ) → told_of file ≡ Some (record { calls = 0; stop = stop }) → IfOk result (λ tried. IfOk tried (λ end. StopsWithin 2 (record { calls = 0; stop = stop }) → ⊥)) }
-        ensures stopped { (stop : Option ℕ) → told_of file ≡ Some (record { calls = 0; stop = stop }) → IfOk result (λ tried. IfErr tried (λ back. StopsWithin 2 (record { calls = 0; stop = stop }))) }
-        ensures one_left { told_of file ≡ Some (record { calls = 0; stop = Some 2 }) → IfOk result (λ tried. IfErr tried (λ back. (image : List ℕ) → images_of back image → image ≡ (contents_of file).shown)) }
+        ensures entries { OnOpened result (λ end. Has host_reading (contents_of file).shown (entries_of end)) }
+        ensures works { OnOpened result (λ end. host_has_failed end ≡ false) }
+        ensures images { IfOk result (λ tried. MatchResult tried (λ end. NoOthers file (disk_of (journal_of end))) (λ back. NoOthers file back)) }
+        ensures counts { (stop : Option ℕ) → HasCounted 0 stop file → OnOpened result (λ end. HasCounted 2 stop (disk_of (journal_of end))) }
+        ensures goes_on { (stop : Option ℕ) → HasCounted 0 stop file → OnOpened result (λ end. StopsInTwo stop → ⊥) }
+        ensures stopped { (stop : Option ℕ) → HasCounted 0 stop file → OnGivenBack result (λ back. StopsInTwo stop) }
+        ensures one_left { HasCounted 0 (Some 2) file → OnGivenBack result (λ back. (image : List ℕ) → images_of back image → image ≡ (contents_of file).shown) }
     {
         let tried = try_open(alloc, file)?;
         match tried {
@@ -86,14 +88,14 @@ impl OverDisk<HostEntry> for Host<DiskJournal<HostEntry, MemoryDisk>> {
         requires { host_has_failed self ≡ false }
         ensures entries { IfOk result (λ end. entries_of end ≡ entries_of self) }
         ensures works { IfOk result (λ end. host_has_failed end ≡ false) }
-        ensures images { IfOk result (λ end. NoOthers (⟦<DiskJournal<HostEntry, MemoryDisk> as OnDisk<MemoryDisk>>⟧.disk (journal_of self)) (⟦<DiskJournal<HostEntry, MemoryDisk> as OnDisk<MemoryDisk>>⟧.disk (journal_of end))) }
-        ensures counts { (c : Counts) → told_of (⟦<DiskJournal<HostEntry, MemoryDisk> as OnDisk<MemoryDisk>>⟧.disk (journal_of self)) ≡ Some c → IfOk result (λ end. told_of (⟦<DiskJournal<HostEntry, MemoryDisk> as OnDisk<MemoryDisk>>⟧.disk (journal_of end)) ≡ Some (record { calls = c.calls; stop = stop_of c.calls call })) }
+        ensures images { IfOk result (λ end. NoOthers (disk_of (journal_of self)) (disk_of (journal_of end))) }
+        ensures counts { (c : Counts) → told_of (disk_of (journal_of self)) ≡ Some c → IfOk result (λ end. HasCounted c.calls (stop_of c.calls call) (disk_of (journal_of end))) }
     {
         host_armed(alloc, Host::into_journal(self), call, fill, cuts)
     }
 
     fn into_disk(self) -> MemoryDisk
-        ensures { result ≡ ⟦<DiskJournal<HostEntry, MemoryDisk> as OnDisk<MemoryDisk>>⟧.disk (journal_of self) }
+        ensures { result ≡ disk_of (journal_of self) }
     {
         Host::into_journal(self).into_disk()
     }

@@ -5,6 +5,7 @@ ghost use Rattle.cap_disk.specs.MemoryDisk.{contents_of, told_of};
 ghost use Rattle.cap_disk.specs.declared.memory.MemoryDisk.{MemoryDisk};
 ghost use Rattle.cap_journal.specs.File.{Has};
 ghost use Rattle.cap_journal.specs.Told.{StopsWithin};
+ghost use Rattle.cap_power.specs.Words.{HasCounted, OnGivenBack, OnOpened, StopsInTwo};
 ghost use Rattle.cap_power.specs.Images.{images_of, NoOthers};
 
 use cap_base::Memory;
@@ -25,13 +26,13 @@ pub trait OverDisk<E: Record>: Drop + Sized {
 
     /// Opens the end over a disk whose calls count from 0, with a sync and a length. Where one of them fails, it gives the disk back.
     fn open(alloc: Global, file: MemoryDisk) -> Result<Result<Self, MemoryDisk>, Memory>
-        ensures entries { IfOk result (λ tried. IfOk tried (λ end. Has E.reading (contents_of file).shown (entries end))) }
-        ensures works { IfOk result (λ tried. IfOk tried (λ end. has_failed end ≡ false)) }
+        ensures entries { OnOpened result (λ end. Has E.reading (contents_of file).shown (entries end)) }
+        ensures works { OnOpened result (λ end. has_failed end ≡ false) }
         ensures images { IfOk result (λ tried. MatchResult tried (λ end. NoOthers file (disk end)) (λ back. NoOthers file back)) }
-        ensures counts { (stop : Option ℕ) → told_of file ≡ Some (record { calls = 0; stop = stop }) → IfOk result (λ tried. IfOk tried (λ end. told_of (disk end) ≡ Some (record { calls = 2; stop = stop }))) }
-        ensures goes_on { (stop : Option ℕ) → told_of file ≡ Some (record { calls = 0; stop = stop }) → IfOk result (λ tried. IfOk tried (λ end. StopsWithin 2 (record { calls = 0; stop = stop }) → ⊥)) }
-        ensures stopped { (stop : Option ℕ) → told_of file ≡ Some (record { calls = 0; stop = stop }) → IfOk result (λ tried. IfErr tried (λ back. StopsWithin 2 (record { calls = 0; stop = stop }))) }
-        ensures one_left { told_of file ≡ Some (record { calls = 0; stop = Some 2 }) → IfOk result (λ tried. IfErr tried (λ back. (image : List ℕ) → images_of back image → image ≡ (contents_of file).shown)) };
+        ensures counts { (stop : Option ℕ) → HasCounted 0 stop file → OnOpened result (λ end. HasCounted 2 stop (disk end)) }
+        ensures goes_on { (stop : Option ℕ) → HasCounted 0 stop file → OnOpened result (λ end. StopsInTwo stop → ⊥) }
+        ensures stopped { (stop : Option ℕ) → HasCounted 0 stop file → OnGivenBack result (λ back. StopsInTwo stop) }
+        ensures one_left { HasCounted 0 (Some 2) file → OnGivenBack result (λ back. (image : List ℕ) → images_of back image → image ≡ (contents_of file).shown) };
 
     /// The end, with a call of its disk armed: to cut the power there, or to fail. It counts from 1; at 0 nothing is armed. No device call is made.
     fn arm(self, alloc: Global, call: u64, fill: Fill, cuts: bool) -> Result<Self, Memory>
@@ -39,7 +40,7 @@ pub trait OverDisk<E: Record>: Drop + Sized {
         ensures entries { IfOk result (λ end. entries end ≡ entries self) }
         ensures works { IfOk result (λ end. has_failed end ≡ false) }
         ensures images { IfOk result (λ end. NoOthers (disk self) (disk end)) }
-        ensures counts { (c : Counts) → told_of (disk self) ≡ Some c → IfOk result (λ end. told_of (disk end) ≡ Some (record { calls = c.calls; stop = stop_of c.calls call })) };
+        ensures counts { (c : Counts) → told_of (disk self) ≡ Some c → IfOk result (λ end. HasCounted c.calls (stop_of c.calls call) (disk end)) };
 
     /// Gives the disk back.
     fn into_disk(self) -> MemoryDisk

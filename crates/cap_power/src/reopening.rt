@@ -5,6 +5,7 @@ ghost use Rattle.cap_journal.specs.File.{Has};
 ghost use Rattle.cap_journal.specs.Told.{StopsWithin};
 ghost use Rattle.cap_plays.specs.Plays.{Doubt, MayKeep};
 ghost use Rattle.cap_schedule.specs.declared.schedule.Prefix.TheVariants.{Cut, Fail, CutAfter};
+ghost use Rattle.cap_power.specs.Words.{HasCounted};
 ghost use Rattle.cap_power.specs.Images.{images_of, NoOthers, IsRestarted};
 ghost use Rattle.cap_power.specs.Standing.{Stands, IsReady, IsOnWith, IsOffWithOne};
 ghost use Rattle.cap_power.specs.Fates.{opening, MeetsFate, Opens};
@@ -30,7 +31,7 @@ fn restarted(disk: MemoryDisk) -> MemoryDisk
 fn on_again<E: Record, T: OverDisk<E>>(alloc: Global, end: T) -> Result<Settled<T>, Memory>
     requires { T.has_failed end ≡ false }
     ensures on { IfOk result (IsOnWith (Has E.reading) T.entries T.disk (T.entries end)) }
-    ensures ready { (stop : Option ℕ) → told_of (T.disk end) ≡ Some (record { calls = 2; stop = stop }) → IfOk result (λ after. IsReady T.has_failed T.disk 2 after.power) }
+    ensures ready { (stop : Option ℕ) → HasCounted 2 stop (T.disk end) → IfOk result (λ after. IsReady T.has_failed T.disk 2 after.power) }
 {
     let end = end.arm(alloc, 0, Fill::Old, false)?;
     Ok(Settled {

@@ -5,6 +5,7 @@ ghost use Rattle.cap_disk.specs.declared.memory.MemoryDisk.{MemoryDisk};
 ghost use Rattle.cap_journal.specs.File.{Has};
 ghost use Rattle.cap_plays.specs.Plays.{Doubt, no_doubt};
 ghost use Rattle.cap_plays.specs.Corresponds.{EndCorresponds};
+ghost use Rattle.cap_power.specs.Words.{HasCounted};
 ghost use Rattle.cap_power.specs.Counting.{cuts as spec_cuts, cuts_after as spec_cuts_after, arms, outcome_of_fault};
 ghost use Rattle.cap_power.specs.Images.{images_of, NoOthers, IsLeftBy};
 ghost use Rattle.cap_power.specs.Standing.{Stands, IsReady, fails};
@@ -38,7 +39,7 @@ fn unarmed<E: Record, T: OverDisk<E>>(
     ensures entries { IfOk result (λ now. T.entries now ≡ T.entries end) }
     ensures works { IfOk result (λ now. T.has_failed now ≡ false) }
     ensures images { IfOk result (λ now. NoOthers (T.disk end) (T.disk now)) }
-    ensures counts { (calls : ℕ) (stop : Option ℕ) → told_of (T.disk end) ≡ Some (record { calls = calls; stop = stop }) → (arms prefix ≡ false → stop ≡ None) → IfOk result (λ now. told_of (T.disk now) ≡ Some (record { calls = calls; stop = None })) }
+    ensures counts { (calls : ℕ) (stop : Option ℕ) → HasCounted calls stop (T.disk end) → (arms prefix ≡ false → stop ≡ None) → IfOk result (λ now. HasCounted calls None (T.disk now)) }
 {
     match prefix {
         Some(Prefix::Cut { .. }) => disarmed(alloc, end),
@@ -60,7 +61,7 @@ fn settle_done<E: Record, T: OverDisk<E>>(
     ensures outcome { spec_cuts_after prefix ≡ false → IfOk result (λ after. after.outcome ≡ outcome) }
     ensures cut { spec_cuts_after prefix ≡ true → (settled added : List E) → T.entries end ≡ settled ++ added → IfOk result (λ after. Stands (Has E.reading) T.entries T.disk after.power settled added false (no_doubt (length added))) }
     ensures was_cut { spec_cuts_after prefix ≡ true → IfOk result (λ after. after.outcome ≡ Outcome.WasCut) }
-    ensures ready { (calls : ℕ) (stop : Option ℕ) → told_of (T.disk end) ≡ Some (record { calls = calls; stop = stop }) → (arms prefix ≡ false → stop ≡ None) → IfOk result (λ after. IsReady T.has_failed T.disk calls after.power) }
+    ensures ready { (calls : ℕ) (stop : Option ℕ) → HasCounted calls stop (T.disk end) → (arms prefix ≡ false → stop ≡ None) → IfOk result (λ after. IsReady T.has_failed T.disk calls after.power) }
     ensures works { IfOk result (λ after. fails T.has_failed after.power ≡ false) }
 {
     if cuts_after(prefix) {
@@ -104,7 +105,7 @@ pub fn settle<E: Record, T: OverDisk<E>>(
     ensures outcome { spec_cuts_after prefix ≡ false → IfOk said (λ outcome. IfOk result (λ after. after.outcome ≡ outcome)) }
     ensures cut { spec_cuts_after prefix ≡ true → (settled added : List E) → T.entries end ≡ settled ++ added → OnOk said (IfOk result (λ after. Stands (Has E.reading) T.entries T.disk after.power settled added false (no_doubt (length added)))) }
     ensures was_cut { spec_cuts_after prefix ≡ true → OnOk said (IfOk result (λ after. after.outcome ≡ Outcome.WasCut)) }
-    ensures ready { (calls : ℕ) (stop : Option ℕ) → told_of (T.disk end) ≡ Some (record { calls = calls; stop = stop }) → (arms prefix ≡ false → stop ≡ None) → IfOk result (λ after. IsReady T.has_failed T.disk calls after.power) }
+    ensures ready { (calls : ℕ) (stop : Option ℕ) → HasCounted calls stop (T.disk end) → (arms prefix ≡ false → stop ≡ None) → IfOk result (λ after. IsReady T.has_failed T.disk calls after.power) }
     ensures works { IfOk result (λ after. fails T.has_failed after.power ≡ false) }
     ensures broken { (entries settled tried : List E) (is_on : Bool) (doubt : Doubt) → EndCorresponds (Has E.reading) (images_of (T.disk end)) false entries settled tried is_on doubt → IsErrOf said LineFault.Disk → IfOk result (λ after. Stands (Has E.reading) T.entries T.disk after.power settled tried is_on doubt) }
     ensures left { IsErrOf said LineFault.Disk → IfOk result (λ after. (disk : MemoryDisk) × (after.power ≡ Power.Off disk) × IsLeftBy (spec_cuts prefix) (T.disk end) disk) }

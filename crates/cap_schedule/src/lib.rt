@@ -14,7 +14,7 @@ mod rows;
 mod schedule;
 mod setups;
 
-pub use lines::first_line;
+pub use lines::{first_line, pieces_of};
 pub use outcome::{Outcome, reason_letters};
 pub use reader::read;
 pub use schedule::{

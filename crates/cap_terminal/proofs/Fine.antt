@@ -1,9 +1,9 @@
 -- What a terminal takes may be added.
-use Rattle.std.proofs.Common.{◌≡◌, ◌⊎◌, inl, inr, ⊎_elim, refl, ℕ, ◌≤◌, ◌<◌, Bool, true, false, cond, not, List, [], ◌∷◌, length, Ok, ◌&&◌, sym, subst, arith, leb-false, ltb-true, le-leb}
-use Rattle.std.specs.Prelude.{⊤, nat_le, nat_lt, Result, Err, IfOk, IfErr, IsErrOf, Option, Some, None}
-use Rattle.cap_disk.specs.Disk.{Counts}
-use Rattle.cap_journal.specs.Seen.{IsTrying}
-use Rattle.std.proofs.lemmas.Bool.{cond_both, and_parts, ltb-false}
+use Rattle.std.proofs.Common.{◌≡◌, refl, ℕ, ◌<◌, Bool, true, false, not, List, [], ◌∷◌, length, Ok, ◌&&◌, sym, subst, arith, leb-false, ltb-true, le-leb}
+use Rattle.std.specs.Prelude.{⊤, nat_le, nat_lt, Result, Err, IfOk, IfErr, OnOk}
+use Rattle.cap_journal.specs.declared.journal.Journal.{Ghosts}
+use Rattle.cap_ledger.specs.Appended.{OnlyNow}
+use Rattle.std.proofs.lemmas.Bool.{cond_both, and_parts, ltb-false, false≢true}
 use Rattle.cap_base.specs.declared.parameters.ConfigPart.{ConfigPart}
 use Rattle.cap_sale_msgs.specs.declared.body.SaleBody.TheVariants.{AuthRequest, AuthAnswer, Completion, CompletionAnswer, CancelRequest, CancelAnswer, CancelAdvice, CancelAdviceAnswer}
 use Rattle.cap_batch_msgs.specs.declared.body.BatchBody.TheVariants.{Reconcile, ReconcileAnswer, Batch, BatchAnswer, Diagnostic, DiagnosticAnswer, Rejection}
@@ -21,6 +21,7 @@ use Rattle.cap_entries.specs.Items.{items}
 use Rattle.cap_entries.specs.Acked.{acked}
 use Rattle.cap_entries.specs.Allowed.{part_allowed}
 use Rattle.cap_entries.specs.RecordField.{is_count}
+use Rattle.cap_entries.specs.TermRecord.{term_reading}
 use Rattle.cap_terminal_answers.specs.declared.handled.TermFault.{TermFault}
 use Rattle.cap_terminal_answers.specs.declared.handled.TermFault.TheVariants as fault
 use Rattle.cap_terminal_answers.specs.declared.handled.TermFault.TheVariants.{NotAwaited, NotForUs, Stale, Beyond}
@@ -28,7 +29,10 @@ use Rattle.cap_terminal_answers.specs.declared.handled.Handled.{Handled}
 use Rattle.cap_terminal_answers.specs.declared.handled.Handled.TheVariants.{Part as Part_handled}
 use Rattle.cap_terminal_answers.specs.Takes.{Taken, refuses, is_awaited, acked_answer, take_acknowledgement, take_part, take_reply, is_for_us, takes}
 use Rattle.cap_terminal_answers.specs.Plain.{IsTakenFine}
-use Rattle.cap_terminal.specs.Causes.{IsAnswered, is_adding, MayTake, IsTakeCause, IsTakenCause}
+use Rattle.cap_terminal.specs.Adding.{Adds, ending, take_as}
+use Rattle.cap_terminal.specs.Causes.{IsAnswered, is_adding, IsTakeCause}
+use Rattle.cap_terminal.specs.Handles.{Handles}
+use Rattle.cap_terminal.proofs.Added.{lacks, gives}
 
 abbrev Fine : List TermEntry → Taken → Type 0
 Fine entries taken = IsTakenFine entries taken.added × IsAnswered taken.added taken.answer
@@ -104,9 +108,6 @@ not_failed : (added : List TermEntry) → IsAnswered added (Err fault.Failed) �
 not_failed [] ok = ok
 not_failed (entry ∷ entries) ok = ok
 
-pub disk_not_answered : (added : List TermEntry) (answer : Result Handled TermFault) → IsAnswered added answer → IsErrOf answer fault.Disk → ⊥
-disk_not_answered added answer ok is = not_disk added (subst (λ (a : Result Handled TermFault). IsAnswered added a) is ok)
-
 -- a refusal is the stated one
 pub refused_at : (has_failed : Bool) (added : List TermEntry) (answer : Result Handled TermFault) → IsAnswered added answer → IfErr answer (IsTakeCause has_failed (record { added = added; answer = answer }))
 refused_at has_failed added (Ok handled) ok = tt
@@ -120,37 +121,34 @@ refused_at has_failed added (Err fault.NotAwaited) ok = refl
 refused_at has_failed added (Err (fault.Stale m acked)) ok = refl
 refused_at has_failed added (Err (fault.Beyond m len)) ok = refl
 
--- or its entry was not added
-pub taken_cause : (has_failed : Bool) (entry : TermEntry) (answer : Result Handled TermFault) (why : TermFault) → IsTakenCause has_failed why → IsTakeCause has_failed (record { added = entry ∷ []; answer = answer }) why
-taken_cause has_failed entry answer fault.Disk cause = (refl, cause)
-taken_cause has_failed entry answer fault.Failed cause = (refl, cause)
-taken_cause has_failed entry answer fault.Memory cause = tt
-taken_cause has_failed entry answer (fault.Unread first) cause = absurd cause
-taken_cause has_failed entry answer fault.NotForUs cause = absurd cause
-taken_cause has_failed entry answer (fault.Rejected reason) cause = absurd cause
-taken_cause has_failed entry answer fault.NotAwaited cause = absurd cause
-taken_cause has_failed entry answer (fault.Stale m acked) cause = absurd cause
-taken_cause has_failed entry answer (fault.Beyond m len) cause = absurd cause
+abbrev keeps : List TermEntry → Result Handled TermFault → Taken
+keeps added answer = record { added = added; answer = answer }
 
--- the numbers of the disk where nothing is added
-pub none_tried : (counts : Option Counts) (ok disk memory would : Type 0) → (ok → ⊥) → (disk → ⊥) → (would → ⊥) → IsTrying 4 counts counts ok disk memory would
-none_tried None ok disk memory would no_ok no_disk no_would = tt
-none_tried (Some old) ok disk memory would no_ok no_disk no_would = λ fits.
-    record {
-      added = λ o. absurd (no_ok o);
-      stopped = λ d. absurd (no_disk d);
-      goes_on = λ w. absurd (no_would w);
-      other = λ _ _. refl;
-    }
+module _ {J : Type 0} (g : Ghosts J TermEntry) (only_now : OnlyNow term_reading g (λ (journal : J). journal) g.has_failed) where
+  -- where nothing is to be added
+  pub none_handled : (old : J) (answer : Result Handled TermFault) → IsAnswered [] answer → Handles g old old answer (keeps [] answer)
+  none_handled old answer ok = record { adds = nothing answer ok; answer = itself answer; answers = quietly answer; refused = refused_at (g.has_failed old) [] answer ok }
+    where
+      nothing : (answer : Result Handled TermFault) → IsAnswered [] answer → Adds g old old [] (ending take_as answer)
+      nothing (Ok handled) ok = gives g only_now old
+      nothing (Err fault.Disk) ok = absurd ok
+      nothing (Err fault.Failed) ok = absurd ok
+      nothing (Err fault.Memory) ok = absurd ok
+      nothing (Err (fault.Unread first)) ok = lacks g only_now old []
+      nothing (Err fault.NotForUs) ok = lacks g only_now old []
+      nothing (Err (fault.Rejected reason)) ok = lacks g only_now old []
+      nothing (Err fault.NotAwaited) ok = lacks g only_now old []
+      nothing (Err (fault.Stale m acked)) ok = lacks g only_now old []
+      nothing (Err (fault.Beyond m len)) ok = lacks g only_now old []
 
--- and the same numbers in other words
-pub tried_so : (old new : Option Counts) (ok ok' disk disk' memory memory' would would' : Type 0) → (ok' → ok) → (ok → ok') → (disk' → disk) → (disk → disk') → (memory → memory') → (would' → would) → (would → would') → IsTrying 4 old new ok disk memory would → IsTrying 4 old new ok' disk' memory' would'
-tried_so None new ok ok' disk disk' memory memory' would would' a b d e m w v tried = tt
-tried_so (Some old) new ok ok' disk disk' memory memory' would would' a b d e m w v tried = λ fits.
-    let h = tried fits in
-    record {
-      added = λ o. h.added (a o);
-      stopped = λ s. let t = h.stopped (d s) in (v t.0, t.1);
-      goes_on = λ s within. ⊎_elim (λ t. inl (e t)) (λ t. inr (m t)) (h.goes_on (w s) within);
-      other = λ no_ok no_disk. h.other (λ o. no_ok (b o)) (λ t. no_disk (e t));
-    }
+      itself : (answer : Result Handled TermFault) → IfOk answer (λ handled. answer ≡ Ok handled)
+      itself (Ok handled) = refl
+      itself (Err fault) = tt
+
+      quietly : (answer : Result Handled TermFault) → OnOk answer (is_adding [] ≡ true → g.has_failed old ≡ false)
+      quietly (Ok handled) = λ no. absurd (false≢true no)
+      quietly (Err fault) = tt
+
+  -- want of memory, whatever arrived
+  pub memory_handled : (old : J) (taken : Taken) → Handles g old old (Err fault.Memory) taken
+  memory_handled old taken = record { adds = lacks g only_now old taken.added; answer = tt; answers = tt; refused = tt }

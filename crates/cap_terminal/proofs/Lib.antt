@@ -6,6 +6,7 @@ pub mod Set_ties
 pub mod Room_laws
 pub mod Failing
 pub mod Moments
+pub mod Added
 pub mod Openings
 pub mod Fine
 pub mod Live_laws

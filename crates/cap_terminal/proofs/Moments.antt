@@ -1,6 +1,6 @@
 -- What may be left during two calls in a row.
-use Rattle.std.proofs.Common.{◌≡◌, ◌⊎◌, ℕ, ◌≤◌, List, Option, Some, None, subst, inl, inr, ⊎_elim, arith}
-use Rattle.cap_disk.specs.Disk.{Counts, LeavesOnly, StaysCounted}
+use Rattle.std.proofs.Common.{ℕ, List, Option, Some, None, subst, inl, inr, ⊎_elim, arith}
+use Rattle.cap_disk.specs.Disk.{Counts, LeavesOnly, StaysCounted, IsQuiet}
 
 -- a call that leaves only what could be left before it
 pub leaves_weaker : {D : Type 0} (moment : D → ℕ) (left_since : D → ℕ → List ℕ → Type 0) (old new : D) (P Q : List ℕ → Type 0) → ((image : List ℕ) → P image → Q image) → LeavesOnly moment left_since old new P → LeavesOnly moment left_since old new Q
@@ -18,10 +18,6 @@ leaves_through moment left_since old mid new Q first second = record {
   before = λ t image le left. ⊎_elim (λ earlier. first.before t image le earlier) (λ q. inr q) (second.before t image (omega (arith, le, first.later)) left);
 }
 
--- before any call
-pub leaves_now : {D : Type 0} (moment : D → ℕ) (left_since : D → ℕ → List ℕ → Type 0) (now : D) (P : List ℕ → Type 0) → ((image : List ℕ) → left_since now (moment now) image → P image) → LeavesOnly moment left_since now now P
-leaves_now moment left_since now P only = record { later = omega arith; each = only; before = λ t image le left. inl left }
-
 -- two calls that each leave only what could be left before them
 pub leaves_same : {D : Type 0} (moment : D → ℕ) (left_since : D → ℕ → List ℕ → Type 0) (may_leave : D → List ℕ → Type 0) (old mid new : D) → ((image : List ℕ) → may_leave mid image → left_since mid (moment old) image)
     → LeavesOnly moment left_since old mid (may_leave old) → LeavesOnly moment left_since mid new (may_leave mid) → LeavesOnly moment left_since old new (may_leave old)
@@ -32,3 +28,12 @@ leaves_same moment left_since may_leave old mid new here first second =
 pub stays_through : (a b c : Option Counts) → StaysCounted a b → StaysCounted b c → StaysCounted a c
 stays_through None b c first second = tt
 stays_through (Some counts) b c first second = subst (λ (o : Option Counts). StaysCounted o c) first second
+
+-- no call that isn't counted fails after others that aren't
+pub quiet_through : (a b : Option Counts) (disk : Type 0) → StaysCounted a b → IsQuiet b disk → IsQuiet a disk
+quiet_through None b disk same quiet = tt
+quiet_through (Some counts) b disk same quiet = subst (λ (o : Option Counts). IsQuiet o disk) same quiet
+
+pub quiet_never : (counts : Option Counts) (disk : Type 0) → (disk → ⊥) → IsQuiet counts disk
+quiet_never None disk never = tt
+quiet_never (Some counts) disk never = never

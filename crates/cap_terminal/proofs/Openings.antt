@@ -1,25 +1,22 @@
 -- How opening goes on from entry to entry.
-use Rattle.std.proofs.Common.{◌≡◌, ◌⊎◌, ℕ, ◌+◌, ◌-◌, ◌≤◌, ◌<◌, Bool, true, false, not, List, [], ◌∷◌, ◌++◌, length, take, drop, get_or, Option, Some, None, refl, sym, ◌∙◌, ap, subst, inl, inr, ⊎_elim, arith, eqb-true, leb-true}
-use Rattle.std.specs.Prelude.{count_by, ◌==◌, nat_le, slice_get, IsTrue, vec_len}
+use Rattle.std.proofs.Common.{◌≡◌, ℕ, ◌+◌, ◌≤◌, ◌<◌, true, false, not, List, [], ◌∷◌, ◌++◌, length, take, drop, Option, Some, None, refl, sym, ◌∙◌, ap, subst, arith, eqb-true, leb-true}
+use Rattle.std.specs.Prelude.{count_by, ◌==◌, nat_le, slice_get, Result, Ok, Err, IfErr, IsErrAnd}
 use Rattle.std.proofs.lemmas.Bool.{cond-false, false≢true, and_parts, not-true}
 use Rattle.std.proofs.lemmas.List.{take_more, drop_more, length-take-le}
 use Rattle.std.proofs.lemmas.Option.{get_or_from_slice_get, slice_get_within, none-some, same_Some}
-use Rattle.cap_disk.specs.Disk.{LeavesOnly}
 use Rattle.cap_entries.specs.declared.terminal.TermEntry.{TermEntry}
 use Rattle.cap_entries.specs.declared.terminal.TermEntry.TheVariants.{Setup, Begin, Declined, Completed, Voided, Cancelled, Closed, Acked, Part}
 use Rattle.cap_entries.specs.Settings.{TerminalSettings}
-use Rattle.cap_entries.specs.Entry.{is_any_begin, is_pending, is_completed, is_cancelled, max_of, term_setup_of}
+use Rattle.cap_entries.specs.Entry.{is_any_begin, is_completed, is_cancelled, max_of, term_setup_of}
 use Rattle.cap_entries.specs.Allowed.{allowed, all_allowed, is_legal}
 use Rattle.cap_entries.specs.AllowedLaws.{allowed_is}
 use Rattle.cap_entries.specs.FirstNotAllowed.{first_refused, first_not_allowed}
 use Rattle.cap_plain.specs.LegalLaws.{max_within}
-use Rattle.cap_terminal.specs.declared.sale_row.Stage.TheVariants as stage
 use Rattle.cap_terminal.specs.declared.index.Index.{Index}
-use Rattle.cap_terminal.specs.Index.{TerminalIndex, index_of, index_after, changed, change_of}
+use Rattle.cap_terminal.specs.Index.{TerminalIndex, index_of, change_of}
 use Rattle.cap_terminal.specs.View.{index_view}
 use Rattle.cap_terminal.specs.Ready.{IsReady}
 use Rattle.cap_terminal.specs.Opening.{setup_in, setup_from, HasRoomFor}
-use Rattle.cap_terminal.proofs.Growth.{index_push}
 use Rattle.cap_terminal.proofs.Ties.{Ties, ties_none, ties_of, pending_at, completed_at}
 
 ties_all : (entries : List TermEntry) → all_allowed [] entries ≡ true → Ties entries (index_of entries)
@@ -130,3 +127,8 @@ setup_missing (Cancelled n ∷ rest) is ok = absurd (false≢true ok)
 setup_missing (Closed p ∷ rest) is ok = absurd (false≢true ok)
 setup_missing (Acked m ∷ rest) is ok = absurd (false≢true ok)
 setup_missing (Part part ∷ rest) is ok = absurd (false≢true ok)
+
+-- what holds of an error holds of it behind a `?`
+pub answered_behind : {T E : Type 0} (result : Result T E) (error : E) (P : E → Type 0) → IsErrAnd result (λ e. e ≡ error) → P error → IfErr result P
+answered_behind (Ok value) error P is holds = absurd is
+answered_behind (Err e) error P is holds = subst P (sym is) holds

@@ -1,5 +1,5 @@
 -- What an entry needs: the index is ready, and there is room.
-use Rattle.std.proofs.Common.{◌≡◌, ◌⊎◌, ℕ, ◌+◌, ◌-◌, ◌≤◌, ◌<◌, Bool, true, false, cond, not, ◌&&◌, List, [], ◌∷◌, ◌++◌, length, refl, sym, ◌∙◌, ap, subst, inl, inr, arith, get_or, slice_index_or, IsSome, IfSome, Option, Some, None, ⊎_elim, eq-eqb, leb-true, le-leb, ltb-true}
+use Rattle.std.proofs.Common.{◌≡◌, ◌⊎◌, ℕ, ◌+◌, ◌-◌, ◌≤◌, ◌<◌, true, false, not, ◌&&◌, List, [], ◌∷◌, length, refl, sym, ◌∙◌, ap, subst, inl, inr, arith, slice_index_or, IsSome, IfSome, Option, Some, None, ⊎_elim, eq-eqb, leb-true, le-leb}
 use Rattle.std.specs.Prelude.{count_by, sum_by, ◌==◌, nat_le, nat_lt, option_and_then, MatchOption}
 use Rattle.std.specs.List.{list_any}
 use Rattle.std.proofs.lemmas.Bool.{cond-true, cond-false, cases_Bool, false≢true, and_parts, and_from, not-true, lt-ltb, cond_both}

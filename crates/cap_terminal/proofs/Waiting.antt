@@ -1,7 +1,7 @@
 -- How the numbers of pending sales follow the sales.
 use Rattle.std.proofs.Common.{◌≡◌, ◌⊎◌, ℕ, ◌+◌, ◌-◌, ◌≤◌, ◌<◌, Bool, true, false, not, ◌&&◌, ◌||◌, List, [], ◌∷◌, ◌++◌, length, refl, sym, ◌∙◌, ap, subst, inl, inr, ⊎_elim, arith, le-leb, leb-true, leb-false, length-append, length-set, slice_index_or, eq-eqb}
 use Rattle.std.specs.Prelude.{nat_le, ◌==◌}
-use Rattle.std.proofs.lemmas.Bool.{and_from, and_parts, false≢true, cases_Bool}
+use Rattle.std.proofs.lemmas.Bool.{and_from, false≢true, cases_Bool}
 use Rattle.std.proofs.lemmas.List.{get_or_append_left}
 use Rattle.std.proofs.Math.Seq.{get_or-append_seam}
 use Rattle.cap_terminal.specs.declared.pending.Pending.{Pending}

@@ -1,24 +1,28 @@
 -- What a terminal does with what arrives, in terms of what it takes it for.
-use Rattle.std.specs.Prelude.{◌≡◌, ◌++◌, ℕ, Bool, true, false, List, Option, Result, Ok, IsTrue, IsOk, IfOk, IfErr, OnOk, IsErrOf}
-use Rattle.cap_disk.specs.Disk.{Counts, LeavesOnly}
-use Rattle.cap_journal.specs.File.{HasEither}
-use Rattle.cap_journal.specs.Seen.{EveryImage, IsTrying}
+use Rattle.std.specs.Prelude.{◌≡◌, ℕ, List, true, false, Result, Ok, IfOk, IfErr, OnOk}
+use Rattle.cap_journal.specs.declared.journal.Journal.{Ghosts}
+use Rattle.cap_msgs.specs.declared.message.Message.{Message}
+use Rattle.cap_msgs.specs.Received.{Received, Read}
+use Rattle.cap_msgs.specs.Reads.{Reads}
 use Rattle.cap_entries.specs.declared.terminal.TermEntry.{TermEntry}
-use Rattle.cap_entries.specs.TermRecord.{term_reading}
 use Rattle.cap_terminal_answers.specs.declared.handled.Handled.{Handled}
 use Rattle.cap_terminal_answers.specs.declared.handled.TermFault.{TermFault}
-use Rattle.cap_terminal_answers.specs.declared.handled.TermFault.TheVariants.{Disk, Memory}
-use Rattle.cap_terminal_answers.specs.Takes.{Taken}
-use Rattle.cap_terminal.specs.Causes.{is_adding, MayTake, IsTakeCause}
+use Rattle.cap_terminal_answers.specs.Takes.{Taken, takes}
+use Rattle.cap_terminal.specs.Adding.{Adds, ending, take_as}
+use Rattle.cap_terminal.specs.Causes.{is_adding, IsTakeCause}
 
--- at Ok the stated entries are added, and the answer is the stated one; an entry is added only where no call has failed before. A refusal is the
--- stated one, or it says why the entry was not added. A crash in the call leaves the entries from before it, or these and the stated ones; so does
--- one after `Disk`. The numbers of the disk rise by four where an entry is added, and `Disk` comes where the disk is to fail in these four calls
-pub record Handles {J : Type 0} (entries : J → List TermEntry) (has_failed tells : J → Bool) (moment : J → ℕ) (left_since : J → ℕ → List ℕ → Type 0) (may_leave : J → List ℕ → Type 0) (counts : J → Option Counts) (old new : J) (result : Result Handled TermFault) (taken : Taken) : Type 0 where
-  pub ok : OnOk result (entries new ≡ entries old ++ taken.added)
+-- the stated entries are added, and at Ok the answer is the stated one; an entry is added only where no call has failed before. A refusal is the
+-- stated one, or it says why the entry was not added
+pub record Handles {J : Type 0} (g : Ghosts J TermEntry) (old new : J) (result : Result Handled TermFault) (taken : Taken) : Type 0 where
+  pub adds : Adds g old new taken.added (ending take_as result)
   pub answer : IfOk result (λ handled. taken.answer ≡ Ok handled)
-  pub works : OnOk result (is_adding taken.added ≡ true → has_failed old ≡ false)
-  pub refused : IfErr result (IsTakeCause (has_failed old) taken)
-  pub any_moment : IsTrue (tells old) → has_failed old ≡ false → LeavesOnly moment left_since old new (HasEither term_reading (entries old) (entries old ++ taken.added))
-  pub in_doubt : IsTrue (tells old) → IsErrOf result Disk → EveryImage may_leave new (HasEither term_reading (entries old) (entries old ++ taken.added))
-  pub counted : IsTrying 4 (counts old) (counts new) (IsOk result × (is_adding taken.added ≡ true)) (IsErrOf result Disk) (IsErrOf result Memory) (MayTake (has_failed old) taken)
+  pub answers : OnOk result (is_adding taken.added ≡ true → g.has_failed old ≡ false)
+  pub refused : IfErr result (IsTakeCause (g.has_failed old) taken)
+
+-- the same for bytes, as what they read as
+abbrev pub HandlesBytes : {J : Type 0} → Ghosts J TermEntry → (old new : J) → (bytes : List ℕ) → Result Handled TermFault → Type 0
+HandlesBytes g old new bytes result = (received : Received) → Reads bytes received → Handles g old new result (takes (g.entries old) received)
+
+-- and for a message
+abbrev pub HandlesMessage : {J : Type 0} → Ghosts J TermEntry → (old new : J) → Message → Result Handled TermFault → Type 0
+HandlesMessage g old new message result = Handles g old new result (takes (g.entries old) (Read message))

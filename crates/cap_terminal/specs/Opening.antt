@@ -1,6 +1,8 @@
 -- What opening makes of the entries, and when it refuses.
 use Rattle.std.specs.Prelude.{◌≡◌, ℕ, ◌+◌, ◌≤◌, true, List, [], ◌∷◌, Option, Some, None, length, vec_len, vec_capacity, ⊤}
 use Rattle.cap_base.specs.Causes.{Rose}
+use Rattle.cap_disk.specs.Disk.{LeavesOnly}
+use Rattle.cap_journal.specs.declared.journal.Journal.{Ghosts}
 use Rattle.cap_entries.specs.declared.terminal.TermEntry.{TermEntry}
 use Rattle.cap_entries.specs.declared.terminal.TermEntry.TheVariants.{Setup, Begin, Closed}
 use Rattle.cap_entries.specs.Settings.{TerminalSettings}
@@ -9,6 +11,10 @@ use Rattle.cap_terminal.specs.declared.index.Index.{Index}
 use Rattle.cap_terminal.specs.Pending.{notes}
 use Rattle.cap_terminal.specs.declared.faults.TermOpenCause.{TermOpenCause}
 use Rattle.cap_terminal.specs.declared.faults.TermOpenCause.TheVariants.{NotAllowed, Disk, Memory}
+
+-- a crash during the opening leaves no other image than before it
+abbrev pub LeavesNoOthers : {J : Type 0} → Ghosts J TermEntry → (old new : J) → Type 0
+LeavesNoOthers g old new = LeavesOnly g.moment g.left_since old new (g.may_leave old)
 
 -- entries counted from 0; of an empty journal it is entry 0
 abbrev pub IsOpenCause : List TermEntry → (faults_before faults_now : ℕ) → TermOpenCause → Type 0

@@ -1,15 +1,12 @@
-ghost use Rattle.std.specs.Prelude.{◌≡◌, ◌≤◌, ◌++◌, ◌∷◌, [], true, false, IsTrue, IsOk, OnOk, OnErr, IsErrOf, ◌↔◌};
-ghost use Rattle.cap_base.specs.Causes.{Rose};
-ghost use Rattle.cap_disk.specs.Disk.{LeavesOnly};
-ghost use Rattle.cap_journal.specs.File.{HasEither};
-ghost use Rattle.cap_journal.specs.Seen.{EveryImageHas, EveryImage, IsAdding, IsTrying};
+ghost use Rattle.std.specs.Prelude.{◌≡◌, ◌≤◌, ◌∷◌, [], true, false, IfErr, OnOk};
 ghost use Rattle.cap_entries.specs.Allowed.{allowed};
-ghost use Rattle.cap_entries.specs.TermRecord.{has_term_types, term_reading};
-ghost use Rattle.cap_entries.specs.TermRecord.{has_version};
+ghost use Rattle.cap_entries.specs.TermRecord.{has_term_types, has_version};
 ghost use Rattle.std.specs.List.{list_all};
 ghost use Rattle.cap_entries.specs.RecordField.{is_row};
+ghost use Rattle.cap_terminal.specs.Adding.{Adds, ending, entry_as, room_as};
+ghost use Rattle.cap_terminal.specs.Causes.{IsEntryCause};
 ghost use Rattle.cap_terminal.specs.Room.{HasRoom, HasOtherRoom, wanted};
-ghost use Rattle.cap_terminal.specs.Stands.{Stands, HasFront};
+ghost use Rattle.cap_terminal.specs.Stands.{Stands};
 ghost use Rattle.cap_entries.specs.declared.terminal.TermEntry.TheVariants.{Setup, Begin, Completed, Part};
 
 use crate::changing::change;
@@ -26,23 +23,14 @@ pub(crate) fn add_entry<J: Journal<TermEntry>>(
     failed: &mut bool,
     entry: TermEntry,
 ) -> Result<(), EntryFault>
-    requires stands { Stands (J.entries journal.old) (J.has_failed journal.old) (J.spare journal.old) index.old failed.old (IsTrue (J.tells journal.old) → EveryImage J.may_leave journal.old (HasFront term_reading (J.entries journal.old))) }
+    requires stands { Stands J.Journal journal.old index.old failed.old }
     requires allowed { allowed (J.entries journal.old) entry ≡ true }
     requires version { has_version entry ≡ true }
     requires room { HasRoom index.old (J.spare journal.old) entry }
-    ensures stands { Stands (J.entries journal.new) (J.has_failed journal.new) (J.spare journal.new) index.new failed.new (IsTrue (J.tells journal.new) → EveryImage J.may_leave journal.new (HasFront term_reading (J.entries journal.new))) }
-    ensures ok { OnOk result (J.entries journal.new ≡ J.entries journal.old ++ entry ∷ []) }
-    ensures err { OnErr result (J.entries journal.new ≡ J.entries journal.old) }
-    ensures failed { IsErrOf result EntryFault.Failed ↔ (J.has_failed journal.old ≡ true) }
-    ensures disk { IsErrOf result EntryFault.Disk → Rose (J.faults journal.old) (J.faults journal.new) }
-    ensures fails { IsErrOf result EntryFault.Disk → J.has_failed journal.new ≡ true }
-    ensures works { OnOk result (J.has_failed journal.new ≡ false) }
-    ensures in_images { IsTrue (J.tells journal.old) → OnOk result (EveryImageHas J.may_leave term_reading journal.new (J.entries journal.new)) }
-    ensures any_moment { IsTrue (J.tells journal.old) → J.has_failed journal.old ≡ false → LeavesOnly J.moment J.left_since journal.old journal.new (HasEither term_reading (J.entries journal.old) (J.entries journal.old ++ entry ∷ [])) }
-    ensures in_doubt { IsTrue (J.tells journal.old) → IsErrOf result EntryFault.Disk → EveryImage J.may_leave journal.new (HasEither term_reading (J.entries journal.old) (J.entries journal.old ++ entry ∷ [])) }
-    ensures still_works { (IsErrOf result EntryFault.Disk → ⊥) → J.has_failed journal.new ≡ J.has_failed journal.old }
-    ensures counts { IsAdding 4 (J.counts journal.old) (J.counts journal.new) (IsOk result) (IsErrOf result EntryFault.Disk) (J.has_failed journal.old ≡ false) }
-    ensures tells { J.tells journal.new ≡ J.tells journal.old }
+    ensures stands { Stands J.Journal journal.new index.new failed.new }
+    ensures adds { Adds J.Journal journal.old journal.new (entry ∷ []) (ending entry_as result) }
+    ensures answers { OnOk result (J.has_failed journal.old ≡ false) }
+    ensures refused { IfErr result (IsEntryCause (J.has_failed journal.old)) }
     ensures fetched { J.fetched journal.new ≡ J.fetched journal.old }
 {
     if *failed {
@@ -77,24 +65,15 @@ pub(crate) fn reserve_and_add<J: Journal<TermEntry>>(
     more: u64,
     entry: TermEntry,
 ) -> Result<(), RoomFault>
-    requires stands { Stands (J.entries journal.old) (J.has_failed journal.old) (J.spare journal.old) index.old failed.old (IsTrue (J.tells journal.old) → EveryImage J.may_leave journal.old (HasFront term_reading (J.entries journal.old))) }
+    requires stands { Stands J.Journal journal.old index.old failed.old }
     requires works { J.has_failed journal.old ≡ false }
     requires allowed { allowed (J.entries journal.old) entry ≡ true }
     requires version { has_version entry ≡ true }
     requires more { more ≡ wanted entry }
     requires few { more ≤ 3 }
     requires room { HasOtherRoom index.old (J.spare journal.old) entry }
-    ensures stands { Stands (J.entries journal.new) (J.has_failed journal.new) (J.spare journal.new) index.new failed.new (IsTrue (J.tells journal.new) → EveryImage J.may_leave journal.new (HasFront term_reading (J.entries journal.new))) }
-    ensures ok { OnOk result (J.entries journal.new ≡ J.entries journal.old ++ entry ∷ []) }
-    ensures err { OnErr result (J.entries journal.new ≡ J.entries journal.old) }
-    ensures disk { IsErrOf result RoomFault.Disk → Rose (J.faults journal.old) (J.faults journal.new) }
-    ensures fails { IsErrOf result RoomFault.Disk → J.has_failed journal.new ≡ true }
-    ensures still_works { (IsErrOf result RoomFault.Disk → ⊥) → J.has_failed journal.new ≡ J.has_failed journal.old }
-    ensures in_images { IsTrue (J.tells journal.old) → OnOk result (EveryImageHas J.may_leave term_reading journal.new (J.entries journal.new)) }
-    ensures any_moment { IsTrue (J.tells journal.old) → J.has_failed journal.old ≡ false → LeavesOnly J.moment J.left_since journal.old journal.new (HasEither term_reading (J.entries journal.old) (J.entries journal.old ++ entry ∷ [])) }
-    ensures in_doubt { IsTrue (J.tells journal.old) → IsErrOf result RoomFault.Disk → EveryImage J.may_leave journal.new (HasEither term_reading (J.entries journal.old) (J.entries journal.old ++ entry ∷ [])) }
-    ensures counts { IsTrying 4 (J.counts journal.old) (J.counts journal.new) (IsOk result) (IsErrOf result RoomFault.Disk) (IsErrOf result RoomFault.Memory) (J.has_failed journal.old ≡ false) }
-    ensures tells { J.tells journal.new ≡ J.tells journal.old }
+    ensures stands { Stands J.Journal journal.new index.new failed.new }
+    ensures adds { Adds J.Journal journal.old journal.new (entry ∷ []) (ending room_as result) }
     ensures fetched { J.fetched journal.new ≡ J.fetched journal.old }
 {
     match journal.reserve((index.owed + more) as usize) {
@@ -113,21 +92,12 @@ pub(crate) fn reserve_rows_and_add<J: Journal<TermEntry>>(
     failed: &mut bool,
     part: ConfigPart,
 ) -> Result<(), RoomFault>
-    requires stands { Stands (J.entries journal.old) (J.has_failed journal.old) (J.spare journal.old) index.old failed.old (IsTrue (J.tells journal.old) → EveryImage J.may_leave journal.old (HasFront term_reading (J.entries journal.old))) }
+    requires stands { Stands J.Journal journal.old index.old failed.old }
     requires works { J.has_failed journal.old ≡ false }
     requires allowed { allowed (J.entries journal.old) (Part part) ≡ true }
     requires version { has_version (Part part) ≡ true }
-    ensures stands { Stands (J.entries journal.new) (J.has_failed journal.new) (J.spare journal.new) index.new failed.new (IsTrue (J.tells journal.new) → EveryImage J.may_leave journal.new (HasFront term_reading (J.entries journal.new))) }
-    ensures ok { OnOk result (J.entries journal.new ≡ J.entries journal.old ++ Part part ∷ []) }
-    ensures err { OnErr result (J.entries journal.new ≡ J.entries journal.old) }
-    ensures disk { IsErrOf result RoomFault.Disk → Rose (J.faults journal.old) (J.faults journal.new) }
-    ensures fails { IsErrOf result RoomFault.Disk → J.has_failed journal.new ≡ true }
-    ensures still_works { (IsErrOf result RoomFault.Disk → ⊥) → J.has_failed journal.new ≡ J.has_failed journal.old }
-    ensures in_images { IsTrue (J.tells journal.old) → OnOk result (EveryImageHas J.may_leave term_reading journal.new (J.entries journal.new)) }
-    ensures any_moment { IsTrue (J.tells journal.old) → J.has_failed journal.old ≡ false → LeavesOnly J.moment J.left_since journal.old journal.new (HasEither term_reading (J.entries journal.old) (J.entries journal.old ++ Part part ∷ [])) }
-    ensures in_doubt { IsTrue (J.tells journal.old) → IsErrOf result RoomFault.Disk → EveryImage J.may_leave journal.new (HasEither term_reading (J.entries journal.old) (J.entries journal.old ++ Part part ∷ [])) }
-    ensures counts { IsTrying 4 (J.counts journal.old) (J.counts journal.new) (IsOk result) (IsErrOf result RoomFault.Disk) (IsErrOf result RoomFault.Memory) (J.has_failed journal.old ≡ false) }
-    ensures tells { J.tells journal.new ≡ J.tells journal.old }
+    ensures stands { Stands J.Journal journal.new index.new failed.new }
+    ensures adds { Adds J.Journal journal.old journal.new (Part part ∷ []) (ending room_as result) }
     ensures fetched { J.fetched journal.new ≡ J.fetched journal.old }
 {
     match journal.reserve_rows() {

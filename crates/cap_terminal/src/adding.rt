@@ -1,13 +1,9 @@
-ghost use Rattle.std.specs.Prelude.{◌≡◌, ◌≤◌, ◌+◌, ◌++◌, ◌∷◌, [], true, false, IsTrue, IsOk, IfOk, IfErr, OnOk, OnErr, IsErrOf, count_by};
-ghost use Rattle.cap_base.specs.Causes.{Rose};
+ghost use Rattle.std.specs.Prelude.{◌≡◌, ◌≤◌, ◌+◌, ◌∷◌, [], true, false, IfOk, IfErr, OnOk, OnErr, count_by};
 ghost use Rattle.cap_base.specs.Captured.{period_totals};
-ghost use Rattle.cap_disk.specs.Disk.{LeavesOnly};
-ghost use Rattle.cap_journal.specs.File.{HasEither};
-ghost use Rattle.cap_journal.specs.Seen.{EveryImageHas, EveryImage, IsAdding, IsTrying};
-ghost use Rattle.cap_entries.specs.TermRecord.{term_reading};
 ghost use Rattle.cap_entries.specs.declared.terminal.TermEntry.TheVariants.{Begin, Cancelled, Closed};
 ghost use Rattle.cap_entries.specs.Entry.{is_any_begin, is_any_closed, is_completed, is_cancelled, amount_of, max_of};
 ghost use Rattle.cap_entries.specs.Items.{items};
+ghost use Rattle.cap_terminal.specs.Adding.{Adds, ending, begin_as, cancel_as, close_as};
 ghost use Rattle.cap_terminal.specs.Live.{IsLive, next_sale, open_period};
 ghost use Rattle.cap_terminal.specs.Says.{Says};
 ghost use Rattle.cap_terminal.specs.Causes.{IsBeginCause, MayBegin, IsAskCause, IsCancelCause, MayCancel, IsCloseCause, MayClose, IsMemoryOrDisk, IsMemoryOrDiskAtClose};
@@ -83,18 +79,9 @@ impl<J: Journal<TermEntry>> Terminal<J> {
         requires works { J.has_failed self.old ≡ false }
         requires next { n ≡ next_sale (J.entries self.old) }
         requires within { n ≤ max_of (J.entries self.old) }
-        ensures ok { OnOk result (J.entries self.new ≡ J.entries self.old ++ Begin n amount account ∷ []) }
+        ensures adds { Adds J.Journal self.old self.new (Begin n amount account ∷ []) (ending begin_as result) }
         ensures live { OnOk result (IsLive (J.entries self.new) n amount account) }
         ensures kind { IfErr result IsMemoryOrDisk }
-        ensures err { OnErr result (J.entries self.new ≡ J.entries self.old) }
-        ensures disk { IsErrOf result BeginFault.Disk → Rose (J.faults self.old) (J.faults self.new) }
-        ensures fails { IsErrOf result BeginFault.Disk → J.has_failed self.new ≡ true }
-        ensures still_works { (IsErrOf result BeginFault.Disk → ⊥) → J.has_failed self.new ≡ J.has_failed self.old }
-        ensures in_images { IsTrue (J.tells self.old) → OnOk result (EveryImageHas J.may_leave term_reading self.new (J.entries self.new)) }
-        ensures any_moment { IsTrue (J.tells self.old) → J.has_failed self.old ≡ false → LeavesOnly J.moment J.left_since self.old self.new (HasEither term_reading (J.entries self.old) (J.entries self.old ++ Begin n amount account ∷ [])) }
-        ensures in_doubt { IsTrue (J.tells self.old) → IsErrOf result BeginFault.Disk → EveryImage J.may_leave self.new (HasEither term_reading (J.entries self.old) (J.entries self.old ++ Begin n amount account ∷ [])) }
-        ensures counts { IsTrying 4 (J.counts self.old) (J.counts self.new) (IsOk result) (IsErrOf result BeginFault.Disk) (IsErrOf result BeginFault.Memory) (J.has_failed self.old ≡ false) }
-        ensures tells { J.tells self.new ≡ J.tells self.old }
         ensures fetched { J.fetched self.new ≡ J.fetched self.old }
     {
         self.index.make_sale_room()?;
@@ -116,19 +103,10 @@ impl<J: Journal<TermEntry>> Terminal<J> {
     /// `SaleLimit` exactly where the set-up allows no further sale, `Memory`, `Disk`.
     pub fn begin(&mut self, amount: Amount, account: Account) -> Result<Begun, BeginFault>
         ensures begun { IfOk result (λ begun. begun ≡ record { n = next_sale (J.entries self.old); amount = amount; account = account }) }
-        ensures ok { OnOk result (J.entries self.new ≡ J.entries self.old ++ Begin (next_sale (J.entries self.old)) amount account ∷ []) }
+        ensures adds { Adds J.Journal self.old self.new (Begin (next_sale (J.entries self.old)) amount account ∷ []) (ending begin_as result) }
         ensures live { IfOk result (λ begun. IsLive (J.entries self.new) begun.n begun.amount begun.account) }
         ensures answers { OnOk result (MayBegin (J.has_failed self.old) (J.entries self.old)) }
         ensures refused { IfErr result (IsBeginCause (J.has_failed self.old) (J.entries self.old)) }
-        ensures err { OnErr result (J.entries self.new ≡ J.entries self.old) }
-        ensures disk { IsErrOf result BeginFault.Disk → Rose (J.faults self.old) (J.faults self.new) }
-        ensures fails { IsErrOf result BeginFault.Disk → J.has_failed self.new ≡ true }
-        ensures still_works { (IsErrOf result BeginFault.Disk → ⊥) → J.has_failed self.new ≡ J.has_failed self.old }
-        ensures in_images { IsTrue (J.tells self.old) → OnOk result (EveryImageHas J.may_leave term_reading self.new (J.entries self.new)) }
-        ensures any_moment { IsTrue (J.tells self.old) → J.has_failed self.old ≡ false → LeavesOnly J.moment J.left_since self.old self.new (HasEither term_reading (J.entries self.old) (J.entries self.old ++ Begin (next_sale (J.entries self.old)) amount account ∷ [])) }
-        ensures in_doubt { IsTrue (J.tells self.old) → IsErrOf result BeginFault.Disk → EveryImage J.may_leave self.new (HasEither term_reading (J.entries self.old) (J.entries self.old ++ Begin (next_sale (J.entries self.old)) amount account ∷ [])) }
-        ensures counts { IsTrying 4 (J.counts self.old) (J.counts self.new) (IsOk result) (IsErrOf result BeginFault.Disk) (IsErrOf result BeginFault.Memory) (MayBegin (J.has_failed self.old) (J.entries self.old)) }
-        ensures tells { J.tells self.new ≡ J.tells self.old }
         ensures fetched { J.fetched self.new ≡ J.fetched self.old }
     {
         if self.failed {
@@ -150,18 +128,9 @@ impl<J: Journal<TermEntry>> Terminal<J> {
     /// Cancels a completed sale. The first of these holds: `Failed` exactly after an earlier `Disk`, `NoSale` exactly where no sale n was begun,
     /// `NotCompleted` exactly where it was not completed, `AlreadyCancelled` exactly where it was cancelled, `Disk`. It takes no memory.
     pub fn cancel(&mut self, n: u64) -> Result<(), CancelFault>
-        ensures ok { OnOk result (J.entries self.new ≡ J.entries self.old ++ Cancelled n ∷ []) }
+        ensures adds { Adds J.Journal self.old self.new (Cancelled n ∷ []) (ending cancel_as result) }
         ensures answers { OnOk result (MayCancel (J.has_failed self.old) (J.entries self.old) n) }
         ensures refused { IfErr result (IsCancelCause (J.has_failed self.old) (J.entries self.old) n) }
-        ensures err { OnErr result (J.entries self.new ≡ J.entries self.old) }
-        ensures disk { IsErrOf result CancelFault.Disk → Rose (J.faults self.old) (J.faults self.new) }
-        ensures fails { IsErrOf result CancelFault.Disk → J.has_failed self.new ≡ true }
-        ensures still_works { (IsErrOf result CancelFault.Disk → ⊥) → J.has_failed self.new ≡ J.has_failed self.old }
-        ensures in_images { IsTrue (J.tells self.old) → OnOk result (EveryImageHas J.may_leave term_reading self.new (J.entries self.new)) }
-        ensures any_moment { IsTrue (J.tells self.old) → J.has_failed self.old ≡ false → LeavesOnly J.moment J.left_since self.old self.new (HasEither term_reading (J.entries self.old) (J.entries self.old ++ Cancelled n ∷ [])) }
-        ensures in_doubt { IsTrue (J.tells self.old) → IsErrOf result CancelFault.Disk → EveryImage J.may_leave self.new (HasEither term_reading (J.entries self.old) (J.entries self.old ++ Cancelled n ∷ [])) }
-        ensures counts { IsAdding 4 (J.counts self.old) (J.counts self.new) (IsOk result) (IsErrOf result CancelFault.Disk) (MayCancel (J.has_failed self.old) (J.entries self.old) n) }
-        ensures tells { J.tells self.new ≡ J.tells self.old }
         ensures fetched { J.fetched self.new ≡ J.fetched self.old }
     {
         if self.failed {
@@ -183,17 +152,8 @@ impl<J: Journal<TermEntry>> Terminal<J> {
         requires works { J.has_failed self.old ≡ false }
         requires next { p ≡ open_period (J.entries self.old) }
         requires within { p ≤ 250000 }
-        ensures ok { OnOk result (J.entries self.new ≡ J.entries self.old ++ Closed p ∷ []) }
+        ensures adds { Adds J.Journal self.old self.new (Closed p ∷ []) (ending close_as result) }
         ensures kind { IfErr result IsMemoryOrDiskAtClose }
-        ensures err { OnErr result (J.entries self.new ≡ J.entries self.old) }
-        ensures disk { IsErrOf result CloseFault.Disk → Rose (J.faults self.old) (J.faults self.new) }
-        ensures fails { IsErrOf result CloseFault.Disk → J.has_failed self.new ≡ true }
-        ensures still_works { (IsErrOf result CloseFault.Disk → ⊥) → J.has_failed self.new ≡ J.has_failed self.old }
-        ensures in_images { IsTrue (J.tells self.old) → OnOk result (EveryImageHas J.may_leave term_reading self.new (J.entries self.new)) }
-        ensures any_moment { IsTrue (J.tells self.old) → J.has_failed self.old ≡ false → LeavesOnly J.moment J.left_since self.old self.new (HasEither term_reading (J.entries self.old) (J.entries self.old ++ Closed p ∷ [])) }
-        ensures in_doubt { IsTrue (J.tells self.old) → IsErrOf result CloseFault.Disk → EveryImage J.may_leave self.new (HasEither term_reading (J.entries self.old) (J.entries self.old ++ Closed p ∷ [])) }
-        ensures counts { IsTrying 4 (J.counts self.old) (J.counts self.new) (IsOk result) (IsErrOf result CloseFault.Disk) (IsErrOf result CloseFault.Memory) (J.has_failed self.old ≡ false) }
-        ensures tells { J.tells self.new ≡ J.tells self.old }
         ensures fetched { J.fetched self.new ≡ J.fetched self.old }
     {
         self.index.make_period_room()?;
@@ -215,18 +175,9 @@ impl<J: Journal<TermEntry>> Terminal<J> {
     /// `PeriodLimit` exactly after 250,000 closings, `Memory`, `Disk`.
     pub fn close_period(&mut self) -> Result<(u64, Totals), CloseFault>
         ensures period { IfOk result (λ period. (period.0 ≡ open_period (J.entries self.old)) × (period.1 ≡ period_totals (items (J.entries self.old)) (open_period (J.entries self.old)))) }
-        ensures ok { OnOk result (J.entries self.new ≡ J.entries self.old ++ Closed (open_period (J.entries self.old)) ∷ []) }
+        ensures adds { Adds J.Journal self.old self.new (Closed (open_period (J.entries self.old)) ∷ []) (ending close_as result) }
         ensures answers { OnOk result (MayClose (J.has_failed self.old) (J.entries self.old)) }
         ensures refused { IfErr result (IsCloseCause (J.has_failed self.old) (J.entries self.old)) }
-        ensures err { OnErr result (J.entries self.new ≡ J.entries self.old) }
-        ensures disk { IsErrOf result CloseFault.Disk → Rose (J.faults self.old) (J.faults self.new) }
-        ensures fails { IsErrOf result CloseFault.Disk → J.has_failed self.new ≡ true }
-        ensures still_works { (IsErrOf result CloseFault.Disk → ⊥) → J.has_failed self.new ≡ J.has_failed self.old }
-        ensures in_images { IsTrue (J.tells self.old) → OnOk result (EveryImageHas J.may_leave term_reading self.new (J.entries self.new)) }
-        ensures any_moment { IsTrue (J.tells self.old) → J.has_failed self.old ≡ false → LeavesOnly J.moment J.left_since self.old self.new (HasEither term_reading (J.entries self.old) (J.entries self.old ++ Closed (open_period (J.entries self.old)) ∷ [])) }
-        ensures in_doubt { IsTrue (J.tells self.old) → IsErrOf result CloseFault.Disk → EveryImage J.may_leave self.new (HasEither term_reading (J.entries self.old) (J.entries self.old ++ Closed (open_period (J.entries self.old)) ∷ [])) }
-        ensures counts { IsTrying 4 (J.counts self.old) (J.counts self.new) (IsOk result) (IsErrOf result CloseFault.Disk) (IsErrOf result CloseFault.Memory) (MayClose (J.has_failed self.old) (J.entries self.old)) }
-        ensures tells { J.tells self.new ≡ J.tells self.old }
         ensures fetched { J.fetched self.new ≡ J.fetched self.old }
     {
         if self.failed {

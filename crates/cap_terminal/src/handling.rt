@@ -1,23 +1,18 @@
-ghost use Rattle.std.specs.Prelude.{◌≡◌, ◌≤◌, ◌<◌, ◌++◌, ◌∷◌, [], true, false, Ok, IsTrue, IsOk, IfOk, IfErr, OnOk, OnErr, IsErrOf, length, bytes_eq, ◌&&◌};
-ghost use Rattle.cap_base.specs.Causes.{Rose};
-ghost use Rattle.cap_disk.specs.Disk.{LeavesOnly};
-ghost use Rattle.cap_journal.specs.File.{HasEither};
-ghost use Rattle.cap_journal.specs.Seen.{EveryImageHas, EveryImage, IsTrying};
+ghost use Rattle.std.specs.Prelude.{◌≡◌, ◌≤◌, ◌<◌, ◌∷◌, [], true, false, IfOk, IfErr, OnOk, length, bytes_eq, ◌&&◌};
 ghost use Rattle.cap_entries.specs.Allowed.{part_allowed};
 ghost use Rattle.cap_entries.specs.Items.{items};
 ghost use Rattle.cap_entries.specs.Acked.{acked};
 ghost use Rattle.cap_entries.specs.RecordField.{is_count};
-ghost use Rattle.cap_entries.specs.TermRecord.{term_reading};
 ghost use Rattle.cap_entries.specs.declared.terminal.TermEntry.TheVariants.{Acked, Part};
 ghost use Rattle.cap_msgs.specs.declared.message.Body.TheVariants.{Management as Of_management};
 ghost use Rattle.cap_msgs.specs.Ranges.{is_message};
-ghost use Rattle.cap_msgs.specs.Received.{Received, Read};
-ghost use Rattle.cap_msgs.specs.Reads.{Reads};
+ghost use Rattle.cap_msgs.specs.Received.{Read};
 ghost use Rattle.cap_msgs.specs.Reply.{reply_of};
 ghost use Rattle.cap_terminal_answers.specs.Takes.{take_reply, is_for_us, takes};
 ghost use Rattle.cap_terminal_answers.specs.Plain.{queue_view, IsTakenFine};
-ghost use Rattle.cap_terminal.specs.Causes.{is_adding, IsAnswered, MayTake, IsTakeCause, IsTakenCause};
-ghost use Rattle.cap_terminal.specs.Handles.{Handles};
+ghost use Rattle.cap_terminal.specs.Adding.{Adds, Stays, ending, take_as};
+ghost use Rattle.cap_terminal.specs.Causes.{IsAnswered, IsTakenCause};
+ghost use Rattle.cap_terminal.specs.Handles.{Handles, HandlesBytes, HandlesMessage};
 
 use crate::add::{RoomFault, reserve_and_add, reserve_rows_and_add};
 use crate::terminal::Terminal;
@@ -106,18 +101,9 @@ impl<J: Journal<TermEntry>> Terminal<J> {
     fn add_acked(&mut self, m: u64) -> Result<(), TermFault>
         requires above { acked (J.entries self.old) < m }
         requires within { m ≤ length (items (J.entries self.old)) }
-        ensures ok { OnOk result (J.entries self.new ≡ J.entries self.old ++ Acked m ∷ []) }
-        ensures works { OnOk result (J.has_failed self.old ≡ false) }
+        ensures adds { Adds J.Journal self.old self.new (Acked m ∷ []) (ending take_as result) }
+        ensures answers { OnOk result (J.has_failed self.old ≡ false) }
         ensures refused { IfErr result (IsTakenCause (J.has_failed self.old)) }
-        ensures err { OnErr result (J.entries self.new ≡ J.entries self.old) }
-        ensures disk { IsErrOf result TermFault.Disk → Rose (J.faults self.old) (J.faults self.new) }
-        ensures fails { IsErrOf result TermFault.Disk → J.has_failed self.new ≡ true }
-        ensures still_works { (IsErrOf result TermFault.Disk → ⊥) → J.has_failed self.new ≡ J.has_failed self.old }
-        ensures in_images { IsTrue (J.tells self.old) → OnOk result (EveryImageHas J.may_leave term_reading self.new (J.entries self.new)) }
-        ensures any_moment { IsTrue (J.tells self.old) → J.has_failed self.old ≡ false → LeavesOnly J.moment J.left_since self.old self.new (HasEither term_reading (J.entries self.old) (J.entries self.old ++ Acked m ∷ [])) }
-        ensures in_doubt { IsTrue (J.tells self.old) → IsErrOf result TermFault.Disk → EveryImage J.may_leave self.new (HasEither term_reading (J.entries self.old) (J.entries self.old ++ Acked m ∷ [])) }
-        ensures counts { IsTrying 4 (J.counts self.old) (J.counts self.new) (IsOk result) (IsErrOf result TermFault.Disk) (IsErrOf result TermFault.Memory) (J.has_failed self.old ≡ false) }
-        ensures tells { J.tells self.new ≡ J.tells self.old }
         ensures fetched { J.fetched self.new ≡ J.fetched self.old }
     {
         if self.failed {
@@ -141,18 +127,9 @@ impl<J: Journal<TermEntry>> Terminal<J> {
     fn add_part(&mut self, part: ConfigPart) -> Result<(), TermFault>
         requires allowed { part_allowed (J.entries self.old) part ≡ true }
         requires version { is_count part.version ≡ true }
-        ensures ok { OnOk result (J.entries self.new ≡ J.entries self.old ++ Part part ∷ []) }
-        ensures works { OnOk result (J.has_failed self.old ≡ false) }
+        ensures adds { Adds J.Journal self.old self.new (Part part ∷ []) (ending take_as result) }
+        ensures answers { OnOk result (J.has_failed self.old ≡ false) }
         ensures refused { IfErr result (IsTakenCause (J.has_failed self.old)) }
-        ensures err { OnErr result (J.entries self.new ≡ J.entries self.old) }
-        ensures disk { IsErrOf result TermFault.Disk → Rose (J.faults self.old) (J.faults self.new) }
-        ensures fails { IsErrOf result TermFault.Disk → J.has_failed self.new ≡ true }
-        ensures still_works { (IsErrOf result TermFault.Disk → ⊥) → J.has_failed self.new ≡ J.has_failed self.old }
-        ensures in_images { IsTrue (J.tells self.old) → OnOk result (EveryImageHas J.may_leave term_reading self.new (J.entries self.new)) }
-        ensures any_moment { IsTrue (J.tells self.old) → J.has_failed self.old ≡ false → LeavesOnly J.moment J.left_since self.old self.new (HasEither term_reading (J.entries self.old) (J.entries self.old ++ Part part ∷ [])) }
-        ensures in_doubt { IsTrue (J.tells self.old) → IsErrOf result TermFault.Disk → EveryImage J.may_leave self.new (HasEither term_reading (J.entries self.old) (J.entries self.old ++ Part part ∷ [])) }
-        ensures counts { IsTrying 4 (J.counts self.old) (J.counts self.new) (IsOk result) (IsErrOf result TermFault.Disk) (IsErrOf result TermFault.Memory) (J.has_failed self.old ≡ false) }
-        ensures tells { J.tells self.new ≡ J.tells self.old }
         ensures fetched { J.fetched self.new ≡ J.fetched self.old }
     {
         if self.failed {
@@ -169,18 +146,9 @@ impl<J: Journal<TermEntry>> Terminal<J> {
     // Adds an acknowledgement or a part.
     fn add_taken(&mut self, entry: TermEntry) -> Result<(), TermFault>
         requires { IsTakenFine (J.entries self.old) (entry ∷ []) }
-        ensures ok { OnOk result (J.entries self.new ≡ J.entries self.old ++ entry ∷ []) }
-        ensures works { OnOk result (J.has_failed self.old ≡ false) }
+        ensures adds { Adds J.Journal self.old self.new (entry ∷ []) (ending take_as result) }
+        ensures answers { OnOk result (J.has_failed self.old ≡ false) }
         ensures refused { IfErr result (IsTakenCause (J.has_failed self.old)) }
-        ensures err { OnErr result (J.entries self.new ≡ J.entries self.old) }
-        ensures disk { IsErrOf result TermFault.Disk → Rose (J.faults self.old) (J.faults self.new) }
-        ensures fails { IsErrOf result TermFault.Disk → J.has_failed self.new ≡ true }
-        ensures still_works { (IsErrOf result TermFault.Disk → ⊥) → J.has_failed self.new ≡ J.has_failed self.old }
-        ensures in_images { IsTrue (J.tells self.old) → OnOk result (EveryImageHas J.may_leave term_reading self.new (J.entries self.new)) }
-        ensures any_moment { IsTrue (J.tells self.old) → J.has_failed self.old ≡ false → LeavesOnly J.moment J.left_since self.old self.new (HasEither term_reading (J.entries self.old) (J.entries self.old ++ entry ∷ [])) }
-        ensures in_doubt { IsTrue (J.tells self.old) → IsErrOf result TermFault.Disk → EveryImage J.may_leave self.new (HasEither term_reading (J.entries self.old) (J.entries self.old ++ entry ∷ [])) }
-        ensures counts { IsTrying 4 (J.counts self.old) (J.counts self.new) (IsOk result) (IsErrOf result TermFault.Disk) (IsErrOf result TermFault.Memory) (J.has_failed self.old ≡ false) }
-        ensures tells { J.tells self.new ≡ J.tells self.old }
         ensures fetched { J.fetched self.new ≡ J.fetched self.old }
     {
         match entry {
@@ -191,23 +159,10 @@ impl<J: Journal<TermEntry>> Terminal<J> {
     }
 
     // Adds what is to be added, and answers.
-    #[tactic(auto, using(crate::proofs::Fine::refused_at, crate::proofs::Fine::disk_not_answered, crate::proofs::Fine::taken_cause, crate::proofs::Fine::none_tried))]
     fn follow(&mut self, taking: Taking) -> Result<Handled, TermFault>
         requires fine { IsTakenFine (J.entries self.old) taking.added }
         requires answered { IsAnswered taking.added taking.answer }
-        ensures ok { OnOk result (J.entries self.new ≡ J.entries self.old ++ taking.added) }
-        ensures answer { IfOk result (λ handled. taking.answer ≡ Ok handled) }
-        ensures works { OnOk result (is_adding taking.added ≡ true → J.has_failed self.old ≡ false) }
-        ensures refused { IfErr result (IsTakeCause (J.has_failed self.old) taking) }
-        ensures err { OnErr result (J.entries self.new ≡ J.entries self.old) }
-        ensures disk { IsErrOf result TermFault.Disk → Rose (J.faults self.old) (J.faults self.new) }
-        ensures fails { IsErrOf result TermFault.Disk → J.has_failed self.new ≡ true }
-        ensures still_works { (IsErrOf result TermFault.Disk → ⊥) → J.has_failed self.new ≡ J.has_failed self.old }
-        ensures in_images { IsTrue (J.tells self.old) → OnOk result (J.has_failed self.new ≡ false → EveryImageHas J.may_leave term_reading self.new (J.entries self.new)) }
-        ensures any_moment { IsTrue (J.tells self.old) → J.has_failed self.old ≡ false → LeavesOnly J.moment J.left_since self.old self.new (HasEither term_reading (J.entries self.old) (J.entries self.old ++ taking.added)) }
-        ensures in_doubt { IsTrue (J.tells self.old) → IsErrOf result TermFault.Disk → EveryImage J.may_leave self.new (HasEither term_reading (J.entries self.old) (J.entries self.old ++ taking.added)) }
-        ensures counts { IsTrying 4 (J.counts self.old) (J.counts self.new) (IsOk result × (is_adding taking.added ≡ true)) (IsErrOf result TermFault.Disk) (IsErrOf result TermFault.Memory) (MayTake (J.has_failed self.old) taking) }
-        ensures tells { J.tells self.new ≡ J.tells self.old }
+        ensures handles { Handles J.Journal self.old self.new result taking }
         ensures fetched { J.fetched self.new ≡ J.fetched self.old }
     {
         let Taking { added, answer } = taking;
@@ -227,19 +182,7 @@ impl<J: Journal<TermEntry>> Terminal<J> {
     /// `Disk`, and `Memory` or `Disk` may come; each other refusal comes exactly as `takes` says.
     pub fn handle_message(&mut self, message: &Message) -> Result<Handled, TermFault>
         requires range { is_message message.now ≡ true }
-        ensures ok { OnOk result (J.entries self.new ≡ J.entries self.old ++ (takes (J.entries self.old) (Read message.now)).added) }
-        ensures answer { IfOk result (λ handled. (takes (J.entries self.old) (Read message.now)).answer ≡ Ok handled) }
-        ensures works { OnOk result (is_adding (takes (J.entries self.old) (Read message.now)).added ≡ true → J.has_failed self.old ≡ false) }
-        ensures refused { IfErr result (IsTakeCause (J.has_failed self.old) (takes (J.entries self.old) (Read message.now))) }
-        ensures any_moment { IsTrue (J.tells self.old) → J.has_failed self.old ≡ false → LeavesOnly J.moment J.left_since self.old self.new (HasEither term_reading (J.entries self.old) (J.entries self.old ++ (takes (J.entries self.old) (Read message.now)).added)) }
-        ensures in_doubt { IsTrue (J.tells self.old) → IsErrOf result TermFault.Disk → EveryImage J.may_leave self.new (HasEither term_reading (J.entries self.old) (J.entries self.old ++ (takes (J.entries self.old) (Read message.now)).added)) }
-        ensures counts { IsTrying 4 (J.counts self.old) (J.counts self.new) (IsOk result × (is_adding (takes (J.entries self.old) (Read message.now)).added ≡ true)) (IsErrOf result TermFault.Disk) (IsErrOf result TermFault.Memory) (MayTake (J.has_failed self.old) (takes (J.entries self.old) (Read message.now))) }
-        ensures err { OnErr result (J.entries self.new ≡ J.entries self.old) }
-        ensures disk { IsErrOf result TermFault.Disk → Rose (J.faults self.old) (J.faults self.new) }
-        ensures fails { IsErrOf result TermFault.Disk → J.has_failed self.new ≡ true }
-        ensures still_works { (IsErrOf result TermFault.Disk → ⊥) → J.has_failed self.new ≡ J.has_failed self.old }
-        ensures in_images { IsTrue (J.tells self.old) → OnOk result (J.has_failed self.new ≡ false → EveryImageHas J.may_leave term_reading self.new (J.entries self.new)) }
-        ensures tells { J.tells self.new ≡ J.tells self.old }
+        ensures handles { HandlesMessage J.Journal self.old self.new message.now result }
         ensures fetched { J.fetched self.new ≡ J.fetched self.old }
     {
         match self.fine_taking(message) {
@@ -251,13 +194,8 @@ impl<J: Journal<TermEntry>> Terminal<J> {
     /// Takes bytes of anyone, to anyone, as what they read as. Where they add an entry, `Failed` comes exactly after an earlier `Disk`, and
     /// `Memory` or `Disk` may come; each other refusal comes exactly as `takes` says. `Memory` may also come from reading.
     pub fn handle(&mut self, bytes: &[u8]) -> Result<Handled, TermFault>
-        ensures takes { (received : Received) → Reads bytes.now received → Handles J.entries J.has_failed J.tells J.moment J.left_since J.may_leave J.counts self.old self.new result (takes (J.entries self.old) received) }
-        ensures err { OnErr result (J.entries self.new ≡ J.entries self.old) }
-        ensures disk { IsErrOf result TermFault.Disk → Rose (J.faults self.old) (J.faults self.new) }
-        ensures fails { IsErrOf result TermFault.Disk → J.has_failed self.new ≡ true }
-        ensures still_works { (IsErrOf result TermFault.Disk → ⊥) → J.has_failed self.new ≡ J.has_failed self.old }
-        ensures in_images { IsTrue (J.tells self.old) → OnOk result (J.has_failed self.new ≡ false → EveryImageHas J.may_leave term_reading self.new (J.entries self.new)) }
-        ensures tells { J.tells self.new ≡ J.tells self.old }
+        ensures takes { HandlesBytes J.Journal self.old self.new bytes.now result }
+        ensures stays { Stays J.Journal self.old self.new (ending take_as result) }
         ensures fetched { J.fetched self.new ≡ J.fetched self.old }
     {
         reading_is_exact();

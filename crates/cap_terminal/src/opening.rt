@@ -1,11 +1,11 @@
 ghost use Rattle.std.specs.Prelude.{◌≡◌, ◌≤◌, ◌<◌, ◌+◌, true, false, [], None, Some, IsTrue, IfOk, IfErr, OnOk, MatchResult, length, slice_get};
 ghost use Rattle.cap_base.specs.Causes.{Rose};
-ghost use Rattle.cap_disk.specs.Disk.{LeavesOnly, StaysCounted};
+ghost use Rattle.cap_disk.specs.Disk.{StaysCounted, IsQuiet};
 ghost use Rattle.cap_entries.specs.Allowed.{Legal, all_allowed};
 ghost use Rattle.cap_entries.specs.Entry.{term_setup_of};
 ghost use Rattle.cap_terminal.specs.Index.{index_of};
 ghost use Rattle.cap_terminal.specs.View.{index_view};
-ghost use Rattle.cap_terminal.specs.Opening.{IsOpenCause, IsReadCause, setup_in, setup_from, HasRoomFor};
+ghost use Rattle.cap_terminal.specs.Opening.{LeavesNoOthers, IsOpenCause, IsReadCause, setup_in, setup_from, HasRoomFor};
 
 use crate::changing::change;
 use crate::faults::{TermOpenCause, TermOpenError};
@@ -40,18 +40,20 @@ fn make_room(index: &mut Index, entry: &TermEntry) -> Result<(), Memory>
 }
 
 fn entry_at<J: Journal<TermEntry>>(journal: &mut J, i: u64) -> Result<TermEntry, TermOpenCause>
-    requires within { i < length (J.entries journal.old) }
+    requires within { i < J.len journal.old }
     requires readable { IsTrue (J.is_readable journal.old) }
     ensures value { IfOk result (λ entry. slice_get (J.entries journal.old) i ≡ Some entry) }
     ensures refused { IfErr result (IsReadCause (J.faults journal.old) (J.faults journal.new)) }
     ensures entries { J.entries journal.new ≡ J.entries journal.old }
+    ensures len { J.len journal.new ≡ J.len journal.old }
     ensures spare { J.spare journal.new ≡ J.spare journal.old }
     ensures has_failed { J.has_failed journal.new ≡ J.has_failed journal.old }
     ensures is_readable { J.is_readable journal.new ≡ J.is_readable journal.old }
     ensures faults { J.faults journal.old ≤ J.faults journal.new }
     ensures counts { StaysCounted (J.counts journal.old) (J.counts journal.new) }
+    ensures quiet { IfErr result (λ cause. IsQuiet (J.counts journal.old) (cause ≡ TermOpenCause.Disk)) }
     ensures tells { J.tells journal.new ≡ J.tells journal.old }
-    ensures images { IsTrue (J.tells journal.old) → LeavesOnly J.moment J.left_since journal.old journal.new (J.may_leave journal.old) }
+    ensures images { IsTrue (J.tells journal.old) → LeavesNoOthers J.Journal journal.old journal.new }
 {
     match journal.entry(i) {
         Ok(entry) => Ok(entry),
@@ -74,9 +76,11 @@ fn read_entries<J: Journal<TermEntry>>(
     ensures entries { J.entries journal.new ≡ J.entries journal.old }
     ensures faults { J.faults journal.old ≤ J.faults journal.new }
     ensures counts { StaysCounted (J.counts journal.old) (J.counts journal.new) }
+    ensures quiet { IfErr result (λ cause. IsQuiet (J.counts journal.old) (cause ≡ TermOpenCause.Disk)) }
     ensures has_failed { J.has_failed journal.new ≡ J.has_failed journal.old }
+    ensures is_readable { J.is_readable journal.new ≡ J.is_readable journal.old }
     ensures tells { J.tells journal.new ≡ J.tells journal.old }
-    ensures images { IsTrue (J.tells journal.old) → LeavesOnly J.moment J.left_since journal.old journal.new (J.may_leave journal.old) }
+    ensures images { IsTrue (J.tells journal.old) → LeavesNoOthers J.Journal journal.old journal.new }
 {
     let mut judge = TermJudge::new(alloc);
     let mut index = Index::new(alloc);
@@ -108,9 +112,11 @@ fn read_terminal<J: Journal<TermEntry>>(
     ensures entries { J.entries journal.new ≡ J.entries journal.old }
     ensures faults { J.faults journal.old ≤ J.faults journal.new }
     ensures counts { StaysCounted (J.counts journal.old) (J.counts journal.new) }
+    ensures quiet { IfErr result (λ cause. IsQuiet (J.counts journal.old) (cause ≡ TermOpenCause.Disk)) }
     ensures has_failed { J.has_failed journal.new ≡ J.has_failed journal.old }
+    ensures is_readable { J.is_readable journal.new ≡ J.is_readable journal.old }
     ensures tells { J.tells journal.new ≡ J.tells journal.old }
-    ensures images { IsTrue (J.tells journal.old) → LeavesOnly J.moment J.left_since journal.old journal.new (J.may_leave journal.old) }
+    ensures images { IsTrue (J.tells journal.old) → LeavesNoOthers J.Journal journal.old journal.new }
 {
     let (index, setup) = read_entries(alloc, journal)?;
     match setup {
@@ -133,9 +139,11 @@ impl<J: Journal<TermEntry>> Terminal<J> {
         ensures entries { MatchResult result (λ now. J.entries now ≡ J.entries journal) (λ error. J.entries error.back ≡ J.entries journal) }
         ensures faults { MatchResult result (λ now. J.faults journal ≤ J.faults now) (λ error. J.faults journal ≤ J.faults error.back) }
         ensures counts { MatchResult result (λ now. StaysCounted (J.counts journal) (J.counts now)) (λ error. StaysCounted (J.counts journal) (J.counts error.back)) }
+        ensures quiet { IfErr result (λ error. IsQuiet (J.counts journal) (error.cause ≡ TermOpenCause.Disk)) }
         ensures has_failed { MatchResult result (λ now. J.has_failed now ≡ false) (λ error. J.has_failed error.back ≡ false) }
+        ensures is_readable { MatchResult result (λ now. J.is_readable now ≡ J.is_readable journal) (λ error. J.is_readable error.back ≡ J.is_readable journal) }
         ensures tells { MatchResult result (λ now. J.tells now ≡ J.tells journal) (λ error. J.tells error.back ≡ J.tells journal) }
-        ensures images { IsTrue (J.tells journal) → MatchResult result (λ now. LeavesOnly J.moment J.left_since journal now (J.may_leave journal)) (λ error. LeavesOnly J.moment J.left_since journal error.back (J.may_leave journal)) }
+        ensures images { IsTrue (J.tells journal) → MatchResult result (λ now. LeavesNoOthers J.Journal journal now) (λ error. LeavesNoOthers J.Journal journal error.back) }
     {
         let mut journal = journal;
         match read_terminal(alloc, &mut journal) {

@@ -1,19 +1,17 @@
 -- What a line makes of what a terminal takes.
-use Rattle.std.proofs.Common.{◌≡◌, ◌⊎◌, inl, inr, ℕ, ◌+◌, ◌^◌, ◌<◌, Bool, true, false, not, List, [], ◌∷◌, ◌++◌, Option, Some, Ok, Err, refl, sym, ◌∙◌, ap, subst, append-nil, IsTrue}
-use Rattle.std.specs.Prelude.{Result, IsErrOf, nat_le, nat_lt, if◌then◌else◌, length}
+use Rattle.std.proofs.Common.{◌≡◌, ◌⊎◌, inl, inr, ℕ, Bool, true, false, not, List, [], ◌∷◌, ◌++◌, Option, Some, Ok, Err, refl, sym, ◌∙◌, ap, subst}
+use Rattle.std.specs.Prelude.{Result, nat_le, nat_lt, if◌then◌else◌, length}
 use Rattle.std.proofs.lemmas.Bool.{false≢true, cond-false}
 use Rattle.std.proofs.lemmas.Option.{none-some, same_Some}
 use Rattle.cap_base.specs.declared.codes.Response.{Response}
 use Rattle.cap_base.specs.declared.codes.Response.TheVariants.{Appr, Decl, Part as Part_response, Tech}
 use Rattle.cap_disk.specs.Disk.{Counts}
-use Rattle.cap_journal.specs.File.{Has}
-use Rattle.cap_journal.specs.Seen.{EveryImageHas}
+use Rattle.cap_journal.specs.declared.journal.Journal.{Ghosts}
 use Rattle.cap_msgs.specs.declared.message.Message.{Message}
 use Rattle.cap_msgs.specs.Received.{Received, Read, Unread}
 use Rattle.cap_msgs.specs.Reply.{Reply, Rejects, Decides_sale, Decides_cancel, Tells_state, Gives_plan, Gives_part, Acknowledges, From_terminal, reply_of, Acknowledgement, Of_end, Of_cancel, Of_close, Of_items, acknowledges, named_item}
 use Rattle.cap_entries.specs.declared.terminal.TermEntry.{TermEntry}
 use Rattle.cap_entries.specs.declared.terminal.TermEntry.TheVariants.{Declined, Acked, Part as Part_entry}
-use Rattle.cap_entries.specs.TermRecord.{term_reading}
 use Rattle.cap_entries.specs.Acked.{acked}
 use Rattle.cap_entries.specs.Items.{items}
 use Rattle.cap_entries.specs.Allowed.{part_allowed}
@@ -22,6 +20,7 @@ use Rattle.cap_terminal_answers.specs.declared.handled.Handled.{Handled}
 use Rattle.cap_terminal_answers.specs.declared.handled.Handled.TheVariants as H
 use Rattle.cap_terminal_answers.specs.declared.handled.TermFault.{TermFault}
 use Rattle.cap_terminal_answers.specs.declared.handled.TermFault.TheVariants as F
+use Rattle.cap_terminal.specs.Adding.{Adds, ending, take_as}
 use Rattle.cap_terminal.specs.Causes.{is_adding}
 use Rattle.cap_terminal.specs.Handles.{Handles}
 use Rattle.cap_terminal_answers.specs.Does.{Decline}
@@ -36,7 +35,7 @@ use Rattle.cap_terminal_lines.specs.declared.said.Said.{Said}
 use Rattle.cap_plays.specs.Texts.{IsSent}
 use Rattle.cap_terminal_lines.specs.Acts.{IsReady, LineDone}
 use Rattle.cap_terminal_lines.specs.Hears.{decision_in, IsAnswerAlone, says_only, refusal_of, DecidedDone}
-use Rattle.cap_terminal_lines.proofs.Steps.{Breaks, Grows, add_ok, add_disk, grew_trying, broke_trying, rest_trying, rest_of, rested_ready}
+use Rattle.cap_terminal_lines.proofs.Steps.{Kept, CountsNow, ToldIsReadable, add_ok, add_disk, grew, broke, rested_none, rested_ready}
 use Rattle.cap_terminal_lines.proofs.Quiet.{quiet_line}
 
 -- what is taken adds nothing, or one entry with an answer that decides no sale
@@ -112,18 +111,20 @@ refused_adds_nothing : (taken : Taken) (fault : TermFault) → IsSorted taken �
 refused_adds_nothing taken fault (inl none) is = none
 refused_adds_nothing taken fault (inr (entry, handled, added, answer, alone)) is = absurd (let e = sym answer ∙ is in cc)
 
-abbrev IsDisk : TermFault → Type 0
-IsDisk fault = IsErrOf {T = Handled} (Err fault) F.Disk
+abbrev failed_disk : Result Handled TermFault
+failed_disk = Err F.Disk
+
+abbrev taken_as : Handled → Result Handled TermFault
+taken_as handled = Ok handled
 
 not_adding : (added : List TermEntry) → is_adding added ≡ true → added ≡ [] → ⊥
 not_adding added adding none = false≢true (sym (ap is_adding none) ∙ adding)
 
-module _ {J : Type 0} (entries : J → List TermEntry) (has_failed tells : J → Bool) (moment : J → ℕ) (left_since : J → ℕ → List ℕ → Type 0) (may_leave : J → List ℕ → Type 0) (counts : J → Option Counts)
-    (kept : (journal : J) (image : List ℕ) → IsTrue (tells journal) → has_failed journal ≡ false → may_leave journal image → Has term_reading image (entries journal)) where
+module _ {J : Type 0} (g : Ghosts J TermEntry) (kept : Kept g) (counts_now : CountsNow g) (told_is_readable : ToldIsReadable g) where
   -- a line of one step that adds this and says this
   abbrev pub StepDone : J → List Message → TerminalState → List ℕ → Option ℕ → Outcome → Counts → TerminalAction → Result Said LineFault → (taken : List TermEntry) → Decided → Type 0
   StepDone now heard s places armed ended before action result taken d =
-      LineDone entries has_failed tells may_leave counts 4 now heard s places armed ended before (makes (record { action = action; added = taken ++ d.added; sent = [] }) d.outcome) result
+      LineDone g 4 now heard s places armed ended before (makes (record { action = action; added = taken ++ d.added; sent = [] }) d.outcome) result
 
   -- the state's entries in place of the journal's
   heard_in : (now : J) (heard : List Message) (s : TerminalState) (places : List ℕ) (armed : Option ℕ) (ended : Outcome) (before : Counts) (action : TerminalAction) (result : Result Said LineFault) (walks_out : Bool) (received : Received) (list : List TermEntry)
@@ -133,118 +134,110 @@ module _ {J : Type 0} (entries : J → List TermEntry) (has_failed tells : J →
       subst (λ (l : List TermEntry). StepDone now heard s places armed ended before action result (takes l received).added (decides_on walks_out l received)) is done
 
   pub only_said : (now : J) (heard : List Message) (s : TerminalState) (places : List ℕ) (armed : Option ℕ) (ended : Outcome) (before : Counts) (action : TerminalAction) (outcome : Outcome) (given : Said)
-      → IsReady entries has_failed tells may_leave counts 4 now heard s places armed before → given ≡ says_only outcome → StepDone now heard s places armed ended before action (Ok given) [] (left_with outcome)
+      → IsReady g 4 now heard s places armed before → given ≡ says_only outcome → StepDone now heard s places armed ended before action (Ok given) [] (left_with outcome)
   only_said now heard s places armed ended before action outcome given ready is =
-      quiet_line entries has_failed tells may_leave counts 4 now heard s places armed ended before action [] outcome given ready (ap (λ (d : Said). d.outcome) is) (subst (λ (d : Said). IsSent d.sent []) (sym is) tt)
+      quiet_line g 4 now heard s places armed ended before action [] outcome given ready (ap (λ (d : Said). d.outcome) is) (subst (λ (d : Said). IsSent d.sent []) (sym is) tt)
 
   -- what was taken added nothing
   rested_after : (old mid : J) (heard : List Message) (s : TerminalState) (places : List ℕ) (armed : Option ℕ) (before : Counts) (taken : Taken) (result : Result Handled TermFault)
-      → IsReady entries has_failed tells may_leave counts 4 old heard s places armed before → Handles entries has_failed tells moment left_since may_leave counts old mid result taken → taken.added ≡ []
-      → (result ≡ Err F.Disk → ⊥) → tells mid ≡ tells old → has_failed mid ≡ has_failed old → entries mid ≡ entries old
-      → IsReady entries has_failed tells may_leave counts 4 mid heard s places armed before
-  rested_after old mid heard s places armed before taken result ready h none no_disk same_told same_works same =
-      let counts_are : counts mid ≡ Some before = rest_trying (counts old) (counts mid) _ _ _ _ before ready.counts_are ready.few h.counted (λ ok. not_adding taken.added ok.1 none) no_disk in
-      rested_ready entries has_failed tells may_leave counts 4 old mid heard s places armed before ready
-      (rest_of entries has_failed tells may_leave counts old mid before kept ready.told ready.works same_told same_works same counts_are)
+      → IsReady g 4 old heard s places armed before → Handles g old mid result taken → taken.added ≡ []
+      → IsReady g 4 mid heard s places armed before
+  rested_after old mid heard s places armed before taken result ready h none =
+      let adds : Adds g old mid [] (ending take_as result) = subst (λ (l : List TermEntry). Adds g old mid l (ending take_as result)) none h.adds in
+      rested_ready g 4 old mid heard s places armed before ready (rested_none g kept told_is_readable old mid (ending take_as result) adds before ready.counts_are ready.few ready.told ready.works)
 
   -- a refusal of its own
   refused_line : (old new : J) (heard : List Message) (s : TerminalState) (places : List ℕ) (armed : Option ℕ) (ended : Outcome) (before : Counts) (action : TerminalAction) (walks_out : Bool) (received : Received) (fault : TermFault)
-      → IsReady entries has_failed tells may_leave counts 4 old heard s places armed before → Handles entries has_failed tells moment left_since may_leave counts old new (Err fault) (takes (entries old) received)
-      → (takes (entries old) received).answer ≡ Err fault → (IsDisk fault → ⊥) → tells new ≡ tells old → has_failed new ≡ has_failed old → entries new ≡ entries old
+      → IsReady g 4 old heard s places armed before → Handles g old new (Err fault) (takes (g.entries old) received)
+      → (takes (g.entries old) received).answer ≡ Err fault
       → StepDone new heard s places armed ended before action (Ok (says_only (fault_outcome fault))) (takes s.settled received).added (decides_on walks_out s.settled received)
-  refused_line old new heard s places armed ended before action walks_out received fault ready h answer no_disk same_told same_works same =
-      let taken : Taken = takes (entries old) received in
+  refused_line old new heard s places armed ended before action walks_out received fault ready h answer =
+      let taken : Taken = takes (g.entries old) received in
       let given : Result Said LineFault = Ok (says_only (fault_outcome fault)) in
-      let none : taken.added ≡ [] = refused_adds_nothing taken fault (taken_sorted (entries old) received) answer in
-      let again = rested_after old new heard s places armed before taken (Err fault) ready h none no_disk same_told same_works same in
+      let none : taken.added ≡ [] = refused_adds_nothing taken fault (taken_sorted (g.entries old) received) answer in
+      let again = rested_after old new heard s places armed before taken (Err fault) ready h none in
       let line = only_said new heard s places armed ended before action (fault_outcome fault) (says_only (fault_outcome fault)) again refl in
-      heard_in new heard s places armed ended before action given walks_out received (entries old) (ready.stands.end.entries_are refl)
-      (subst (λ (r : Result Handled TermFault). StepDone new heard s places armed ended before action given taken.added (decided walks_out (entries old) r)) (sym answer)
+      heard_in new heard s places armed ended before action given walks_out received (g.entries old) (ready.stands.end.entries_are refl)
+      (subst (λ (r : Result Handled TermFault). StepDone new heard s places armed ended before action given taken.added (decided walks_out (g.entries old) r)) (sym answer)
       (subst (λ (l : List TermEntry). StepDone new heard s places armed ended before action given l (left_with (fault_outcome fault))) (sym none) line))
 
   -- a device call failed as the entry was added
   broken_heard : (old new : J) (heard : List Message) (s : TerminalState) (places : List ℕ) (armed : Option ℕ) (ended : Outcome) (before : Counts) (action : TerminalAction) (walks_out : Bool) (received : Received)
-      → IsReady entries has_failed tells may_leave counts 4 old heard s places armed before → Handles entries has_failed tells moment left_since may_leave counts old new (Err F.Disk) (takes (entries old) received)
-      → IsSorted (takes (entries old) received)
+      → IsReady g 4 old heard s places armed before → Handles g old new (Err F.Disk) (takes (g.entries old) received)
+      → IsSorted (takes (g.entries old) received)
       → StepDone new heard s places armed ended before action (Err Disk) (takes s.settled received).added (decides_on walks_out s.settled received)
-  broken_heard old new heard s places armed ended before action walks_out received ready h (inl none) = absurd (not_adding (takes (entries old) received).added h.refused.0 none)
+  broken_heard old new heard s places armed ended before action walks_out received ready h (inl none) = absurd (not_adding (takes (g.entries old) received).added h.refused.0 none)
   broken_heard old new heard s places armed ended before action walks_out received ready h (inr (entry, handled, added, answer, alone)) =
-      let taken : Taken = takes (entries old) received in
-      let d : Decided = on_handled walks_out (entries old) handled in
+      let taken : Taken = takes (g.entries old) received in
+      let d : Decided = on_handled walks_out (g.entries old) handled in
       let outcome : Outcome = (on_handled false [] handled).outcome in
-      let breaks = broke_trying entries has_failed tells may_leave counts old new taken.added _ _ _ _ (λ told. h.in_doubt told refl) h.counted refl in
-      let breaks_entry = subst (λ (l : List TermEntry). (k : Counts) → counts old ≡ Some k → k.calls + 4 < 2 ^ 64 → IsTrue (tells old) → has_failed old ≡ false → Breaks entries has_failed tells may_leave counts old new l k) added breaks in
-      let line = add_disk entries has_failed tells may_leave counts old new entry outcome breaks_entry action heard s places armed ended before ready in
-      heard_in new heard s places armed ended before action (Err Disk) walks_out received (entries old) (ready.stands.end.entries_are refl)
-      (subst (λ (r : Result Handled TermFault). StepDone new heard s places armed ended before action (Err Disk) taken.added (decided walks_out (entries old) r)) (sym answer)
+      let adds : Adds g old new (entry ∷ []) (ending take_as failed_disk) = subst (λ (l : List TermEntry). Adds g old new l (ending take_as failed_disk)) added h.adds in
+      let breaks = broke g kept counts_now old new entry (take_as F.Disk) refl adds in
+      let line = add_disk g old new entry outcome breaks action heard s places armed ended before ready in
+      heard_in new heard s places armed ended before action (Err Disk) walks_out received (g.entries old) (ready.stands.end.entries_are refl)
+      (subst (λ (r : Result Handled TermFault). StepDone new heard s places armed ended before action (Err Disk) taken.added (decided walks_out (g.entries old) r)) (sym answer)
       (subst (λ (l : List TermEntry). StepDone new heard s places armed ended before action (Err Disk) l d) (sym added)
-      (subst (λ (x : Decided). StepDone new heard s places armed ended before action (Err Disk) (entry ∷ []) x) (sym (alone_decided walks_out (entries old) handled alone))
+      (subst (λ (x : Decided). StepDone new heard s places armed ended before action (Err Disk) (entry ∷ []) x) (sym (alone_decided walks_out (g.entries old) handled alone))
       line)))
 
   -- the line goes on with an answer that was taken
   taken_line : (old mid new : J) (heard : List Message) (s : TerminalState) (places : List ℕ) (armed : Option ℕ) (ended : Outcome) (before : Counts) (action : TerminalAction) (walks_out : Bool) (received : Received) (handled : Handled) (result : Result Said LineFault)
-      → IsReady entries has_failed tells may_leave counts 4 old heard s places armed before → Handles entries has_failed tells moment left_since may_leave counts old mid (Ok handled) (takes (entries old) received)
-      → tells mid ≡ tells old → has_failed mid ≡ has_failed old → (IsTrue (tells old) → has_failed mid ≡ false → EveryImageHas may_leave term_reading mid (entries mid))
-      → DecidedDone entries has_failed tells may_leave counts mid new (λ l. on_handled walks_out l handled) result
+      → IsReady g 4 old heard s places armed before → Handles g old mid (Ok handled) (takes (g.entries old) received)
+      → DecidedDone g mid new (λ l. on_handled walks_out l handled) result
       → (IsAnswerAlone handled → result ≡ Ok (says_only (on_handled false [] handled).outcome)) → (IsAnswerAlone handled → new ≡ mid)
-      → IsSorted (takes (entries old) received)
+      → IsSorted (takes (g.entries old) received)
       → StepDone new heard s places armed ended before action result (takes s.settled received).added (decides_on walks_out s.settled received)
-  taken_line old mid new heard s places armed ended before action walks_out received handled result ready h same_told same_works each done says_it stays (inl none) =
-      let taken : Taken = takes (entries old) received in
-      let is : entries old ≡ s.settled = ready.stands.end.entries_are refl in
-      let same : entries mid ≡ entries old = h.ok ∙ (ap (λ (l : List TermEntry). entries old ++ l) none ∙ append-nil (entries old)) in
-      let again = rested_after old mid heard s places armed before taken (Ok handled) ready h none (λ e. cc) same_told same_works same in
+  taken_line old mid new heard s places armed ended before action walks_out received handled result ready h done says_it stays (inl none) =
+      let taken : Taken = takes (g.entries old) received in
+      let is : g.entries old ≡ s.settled = ready.stands.end.entries_are refl in
+      let again = rested_after old mid heard s places armed before taken (Ok handled) ready h none in
       let line = subst (λ (l : List TermEntry). StepDone new heard s places armed ended before action result [] (on_handled walks_out l handled)) (sym is) (done action heard s places armed ended before again) in
-      heard_in new heard s places armed ended before action result walks_out received (entries old) is
-      (subst (λ (r : Result Handled TermFault). StepDone new heard s places armed ended before action result taken.added (decided walks_out (entries old) r)) (sym h.answer)
-      (subst (λ (l : List TermEntry). StepDone new heard s places armed ended before action result l (on_handled walks_out (entries old) handled)) (sym none) line))
-  taken_line old mid new heard s places armed ended before action walks_out received handled result ready h same_told same_works each done says_it stays (inr (entry, other, added, answer, alone)) =
-      let taken : Taken = takes (entries old) received in
-      let is : entries old ≡ s.settled = ready.stands.end.entries_are refl in
+      heard_in new heard s places armed ended before action result walks_out received (g.entries old) is
+      (subst (λ (r : Result Handled TermFault). StepDone new heard s places armed ended before action result taken.added (decided walks_out (g.entries old) r)) (sym h.answer)
+      (subst (λ (l : List TermEntry). StepDone new heard s places armed ended before action result l (on_handled walks_out (g.entries old) handled)) (sym none) line))
+  taken_line old mid new heard s places armed ended before action walks_out received handled result ready h done says_it stays (inr (entry, other, added, answer, alone)) =
+      let taken : Taken = takes (g.entries old) received in
+      let is : g.entries old ≡ s.settled = ready.stands.end.entries_are refl in
       let outcome : Outcome = (on_handled false [] handled).outcome in
       let both = sym answer ∙ h.answer in
       let same_answer : other ≡ handled = cc in
       let alone_too : IsAnswerAlone handled = subst (λ (x : Handled). IsAnswerAlone x) same_answer alone in
-      let adding : is_adding taken.added ≡ true = ap is_adding added in
-      let worked_mid : has_failed mid ≡ false = same_works ∙ ready.works in
-      let grows = grew_trying entries has_failed tells may_leave counts old mid taken.added _ _ _ _ h.ok (λ told. each told worked_mid) worked_mid same_told h.counted (refl, adding) (λ e. cc) (λ e. cc) (adding, ready.works) in
-      let grows_entry = subst (λ (l : List TermEntry). (k : Counts) → counts old ≡ Some k → k.calls + 4 < 2 ^ 64 → IsTrue (tells old) → has_failed old ≡ false → Grows entries has_failed tells may_leave counts old mid l k) added grows in
-      let line = add_ok entries has_failed tells may_leave counts old mid entry outcome (says_only outcome) refl grows_entry action heard s places armed ended before ready in
-      heard_in new heard s places armed ended before action result walks_out received (entries old) is
-      (subst (λ (r : Result Handled TermFault). StepDone new heard s places armed ended before action result taken.added (decided walks_out (entries old) r)) (sym h.answer)
-      (subst (λ (l : List TermEntry). StepDone new heard s places armed ended before action result l (on_handled walks_out (entries old) handled)) (sym added)
-      (subst (λ (x : Decided). StepDone new heard s places armed ended before action result (entry ∷ []) x) (sym (alone_decided walks_out (entries old) handled alone_too))
+      let adds : Adds g old mid (entry ∷ []) (ending take_as (taken_as handled)) = subst (λ (l : List TermEntry). Adds g old mid l (ending take_as (taken_as handled))) added h.adds in
+      let grows = grew g kept told_is_readable old mid entry adds in
+      let line = add_ok g old mid entry outcome (says_only outcome) refl grows action heard s places armed ended before ready in
+      heard_in new heard s places armed ended before action result walks_out received (g.entries old) is
+      (subst (λ (r : Result Handled TermFault). StepDone new heard s places armed ended before action result taken.added (decided walks_out (g.entries old) r)) (sym h.answer)
+      (subst (λ (l : List TermEntry). StepDone new heard s places armed ended before action result l (on_handled walks_out (g.entries old) handled)) (sym added)
+      (subst (λ (x : Decided). StepDone new heard s places armed ended before action result (entry ∷ []) x) (sym (alone_decided walks_out (g.entries old) handled alone_too))
       (subst (λ (r : Result Said LineFault). StepDone new heard s places armed ended before action r (entry ∷ []) (left_with outcome)) (sym (says_it alone_too))
       (subst (λ (j : J). StepDone j heard s places armed ended before action (Ok (says_only outcome)) (entry ∷ []) (left_with outcome)) (sym (stays alone_too)) line)))))
 
   pub heard_ok : (old mid new : J) (walks_out : Bool) (received : Received) (handled : Handled) (result : Result Said LineFault)
-      → Handles entries has_failed tells moment left_since may_leave counts old mid (Ok handled) (takes (entries old) received)
-      → tells mid ≡ tells old → has_failed mid ≡ has_failed old → (IsTrue (tells old) → has_failed mid ≡ false → EveryImageHas may_leave term_reading mid (entries mid))
-      → DecidedDone entries has_failed tells may_leave counts mid new (λ l. on_handled walks_out l handled) result
+      → Handles g old mid (Ok handled) (takes (g.entries old) received)
+      → DecidedDone g mid new (λ l. on_handled walks_out l handled) result
       → (IsAnswerAlone handled → result ≡ Ok (says_only (on_handled false [] handled).outcome)) → (IsAnswerAlone handled → new ≡ mid)
-      → (action : TerminalAction) (heard : List Message) (s : TerminalState) (places : List ℕ) (armed : Option ℕ) (ended : Outcome) (before : Counts) → IsReady entries has_failed tells may_leave counts 4 old heard s places armed before
+      → (action : TerminalAction) (heard : List Message) (s : TerminalState) (places : List ℕ) (armed : Option ℕ) (ended : Outcome) (before : Counts) → IsReady g 4 old heard s places armed before
       → StepDone new heard s places armed ended before action result (takes s.settled received).added (decides_on walks_out s.settled received)
-  heard_ok old mid new walks_out received handled result h same_told same_works each done says_it stays action heard s places armed ended before ready =
-      taken_line old mid new heard s places armed ended before action walks_out received handled result ready h same_told same_works each done says_it stays (taken_sorted (entries old) received)
+  heard_ok old mid new walks_out received handled result h done says_it stays action heard s places armed ended before ready =
+      taken_line old mid new heard s places armed ended before action walks_out received handled result ready h done says_it stays (taken_sorted (g.entries old) received)
 
   pub heard_err : (old new : J) (walks_out : Bool) (received : Received) (fault : TermFault)
-      → Handles entries has_failed tells moment left_since may_leave counts old new (Err fault) (takes (entries old) received)
-      → tells new ≡ tells old → ((IsDisk fault → ⊥) → has_failed new ≡ has_failed old) → entries new ≡ entries old
-      → (action : TerminalAction) (heard : List Message) (s : TerminalState) (places : List ℕ) (armed : Option ℕ) (ended : Outcome) (before : Counts) → IsReady entries has_failed tells may_leave counts 4 old heard s places armed before
+      → Handles g old new (Err fault) (takes (g.entries old) received)
+      → (action : TerminalAction) (heard : List Message) (s : TerminalState) (places : List ℕ) (armed : Option ℕ) (ended : Outcome) (before : Counts) → IsReady g 4 old heard s places armed before
       → StepDone new heard s places armed ended before action (refusal_of fault) (takes s.settled received).added (decides_on walks_out s.settled received)
-  heard_err old new walks_out received F.Disk h same_told same_works same action heard s places armed ended before ready =
-      broken_heard old new heard s places armed ended before action walks_out received ready h (taken_sorted (entries old) received)
-  heard_err old new walks_out received F.Failed h same_told same_works same action heard s places armed ended before ready = absurd (false≢true (sym ready.works ∙ h.refused.1))
-  heard_err old new walks_out received F.Memory h same_told same_works same action heard s places armed ended before ready = tt
-  heard_err old new walks_out received (F.Unread fault) h same_told same_works same action heard s places armed ended before ready =
-      refused_line old new heard s places armed ended before action walks_out received (F.Unread fault) ready h h.refused (λ e. cc) same_told (same_works (λ e. cc)) same
-  heard_err old new walks_out received F.NotForUs h same_told same_works same action heard s places armed ended before ready =
-      refused_line old new heard s places armed ended before action walks_out received F.NotForUs ready h h.refused (λ e. cc) same_told (same_works (λ e. cc)) same
-  heard_err old new walks_out received (F.Rejected reason) h same_told same_works same action heard s places armed ended before ready =
-      refused_line old new heard s places armed ended before action walks_out received (F.Rejected reason) ready h h.refused (λ e. cc) same_told (same_works (λ e. cc)) same
-  heard_err old new walks_out received F.NotAwaited h same_told same_works same action heard s places armed ended before ready =
-      refused_line old new heard s places armed ended before action walks_out received F.NotAwaited ready h h.refused (λ e. cc) same_told (same_works (λ e. cc)) same
-  heard_err old new walks_out received (F.Stale m acked) h same_told same_works same action heard s places armed ended before ready =
-      refused_line old new heard s places armed ended before action walks_out received (F.Stale m acked) ready h h.refused (λ e. cc) same_told (same_works (λ e. cc)) same
-  heard_err old new walks_out received (F.Beyond m len) h same_told same_works same action heard s places armed ended before ready =
-      refused_line old new heard s places armed ended before action walks_out received (F.Beyond m len) ready h h.refused (λ e. cc) same_told (same_works (λ e. cc)) same
+  heard_err old new walks_out received F.Disk h action heard s places armed ended before ready =
+      broken_heard old new heard s places armed ended before action walks_out received ready h (taken_sorted (g.entries old) received)
+  heard_err old new walks_out received F.Failed h action heard s places armed ended before ready = absurd (false≢true (sym ready.works ∙ h.refused.1))
+  heard_err old new walks_out received F.Memory h action heard s places armed ended before ready = tt
+  heard_err old new walks_out received (F.Unread fault) h action heard s places armed ended before ready =
+      refused_line old new heard s places armed ended before action walks_out received (F.Unread fault) ready h h.refused
+  heard_err old new walks_out received F.NotForUs h action heard s places armed ended before ready =
+      refused_line old new heard s places armed ended before action walks_out received F.NotForUs ready h h.refused
+  heard_err old new walks_out received (F.Rejected reason) h action heard s places armed ended before ready =
+      refused_line old new heard s places armed ended before action walks_out received (F.Rejected reason) ready h h.refused
+  heard_err old new walks_out received F.NotAwaited h action heard s places armed ended before ready =
+      refused_line old new heard s places armed ended before action walks_out received F.NotAwaited ready h h.refused
+  heard_err old new walks_out received (F.Stale m acked) h action heard s places armed ended before ready =
+      refused_line old new heard s places armed ended before action walks_out received (F.Stale m acked) ready h h.refused
+  heard_err old new walks_out received (F.Beyond m len) h action heard s places armed ended before ready =
+      refused_line old new heard s places armed ended before action walks_out received (F.Beyond m len) ready h h.refused

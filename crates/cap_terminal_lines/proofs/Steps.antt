@@ -1,16 +1,20 @@
 -- What a line of a terminal has done follows from what its calls did, step by step.
-use Rattle.std.proofs.Common.{◌≡◌, ⊎_elim, ℕ, ◌+◌, ◌-◌, ◌^◌, ◌≤◌, ◌<◌, Bool, true, false, List, [], ◌∷◌, ◌++◌, Option, Some, None, Ok, Err, refl, sym, ◌∙◌, ap, subst, arith, IsTrue, leb-true}
-use Rattle.std.specs.Prelude.{Result, IsSome, IsSomeAnd, nat_le}
+use Rattle.std.proofs.Common.{◌≡◌, inl, ⊎_elim, ℕ, ◌+◌, ◌-◌, ◌^◌, ◌≤◌, ◌<◌, Bool, true, false, List, [], ◌∷◌, ◌++◌, Option, Some, None, Ok, Err, refl, sym, ◌∙◌, ap, subst, arith, append-nil, IsTrue, leb-true}
+use Rattle.std.specs.Prelude.{Result, OnOk, IsSome, IsSomeAnd, nat_le}
 use Rattle.std.proofs.lemmas.Bool.{cond-true, cond-false, le-leb, lt-leb}
 use Rattle.std.proofs.lemmas.Bool.Decides.{nat_tests}
 use Rattle.cap_disk.specs.Disk.{Counts}
-use Rattle.cap_journal.specs.File.{Has, HasEither}
+use Rattle.cap_journal.specs.declared.journal.Journal.{Ghosts}
+use Rattle.cap_journal.specs.File.{Has}
 use Rattle.cap_journal.specs.Told.{StopsWithin, counted, StopsAt}
-use Rattle.cap_journal.specs.Seen.{CountsAdding, IsAdding, CountsTrying, IsTrying, EveryImageHas, EveryImage}
+use Rattle.cap_journal.specs.Seen.{CountsTrying, IsTrying}
 use Rattle.cap_msgs.specs.declared.message.Message.{Message}
 use Rattle.cap_entries.specs.declared.terminal.TermEntry.{TermEntry}
 use Rattle.cap_entries.specs.TermRecord.{term_reading}
-use Rattle.cap_host_ledger.specs.Ledger.{calls_for}
+use Rattle.cap_answering.specs.declared.fault.HostFault.{HostFault}
+use Rattle.cap_answering.specs.declared.fault.HostFault.TheVariants as H
+use Rattle.cap_ledger.specs.Adding.{calls_for}
+use Rattle.cap_terminal.specs.Adding.{Adds}
 use Rattle.cap_schedule.specs.declared.outcome.Outcome.{Outcome}
 use Rattle.cap_world.specs.World.{TerminalState, TerminalAction}
 use Rattle.cap_plays.specs.declared.fault.LineFault.{LineFault}
@@ -74,71 +78,52 @@ fate_quiet (Some c) before s work rest ended is zero =
     let same : c - 0 ≡ c = omega arith in
     fate_past c 0 s work rest ended positive zero ∙ ap (λ (k : ℕ). end_in (worked s work) rest.works rest.outcome ended k) same
 
--- the numbers of the disk in a call that went well, and in one that didn't
-abbrev pub WentWell : Counts → Option Counts → Type 0
-WentWell before now = (now ≡ Some (counted 4 before)) × (StopsWithin 4 before → ⊥)
+-- the numbers of the disk in a call
+tried : (n : ℕ) (old new : Option Counts) (ok disk memory would : Type 0) (before : Counts) → old ≡ Some before → before.calls + n < 2 ^ 64 → IsTrying n old new ok disk memory would → CountsTrying n before new ok disk memory would
+tried n old new ok disk memory would before is few trying = (subst (λ (k : Option Counts). IsTrying n k new ok disk memory would) is trying) few
 
-pub well_adding : (old new : Option Counts) (ok disk would : Type 0) (before : Counts) → old ≡ Some before → before.calls + 4 < 2 ^ 64 → IsAdding 4 old new ok disk would → ok → (disk → ⊥) → would → WentWell before new
-well_adding old new ok disk would before is few adding o no_disk w =
-    let h : CountsAdding 4 before new ok disk would = (subst (λ (k : Option Counts). IsAdding 4 k new ok disk would) is adding) few in
-    (h.added o, λ within. no_disk (h.stopped.1 (w, within)))
+abbrev done : Result (Unit {0}) HostFault
+done = Ok tt
 
-pub hit_adding : (old new : Option Counts) (ok disk would : Type 0) (before : Counts) → old ≡ Some before → before.calls + 4 < 2 ^ 64 → IsAdding 4 old new ok disk would → disk → StopsWithin 4 before
-hit_adding old new ok disk would before is few adding d =
-    let h : CountsAdding 4 before new ok disk would = (subst (λ (k : Option Counts). IsAdding 4 k new ok disk would) is adding) few in
-    (h.stopped.0 d).1
+abbrev failed_by : HostFault → Result (Unit {0}) HostFault
+failed_by fault = Err fault
 
-pub rest_adding : (old new : Option Counts) (ok disk would : Type 0) (before : Counts) → old ≡ Some before → before.calls + 4 < 2 ^ 64 → IsAdding 4 old new ok disk would → (ok → ⊥) → (disk → ⊥) → new ≡ Some before
-rest_adding old new ok disk would before is few adding no_ok no_disk =
-    let h : CountsAdding 4 before new ok disk would = (subst (λ (k : Option Counts). IsAdding 4 k new ok disk would) is adding) few in
-    h.other no_ok no_disk
+-- what works after one call works after the next
+pub works_behind : {T F : Type 0} (result : Result T F) (before mid after : Bool) → mid ≡ before → OnOk result (after ≡ mid) → OnOk result (after ≡ before)
+works_behind (Ok v) before mid after first then = then ∙ first
+works_behind (Err e) before mid after first then = tt
 
-pub well_trying : (old new : Option Counts) (ok disk memory would : Type 0) (before : Counts) → old ≡ Some before → before.calls + 4 < 2 ^ 64 → IsTrying 4 old new ok disk memory would → ok → (disk → ⊥) → (memory → ⊥) → would → WentWell before new
-well_trying old new ok disk memory would before is few trying o no_disk no_memory w =
-    let h : CountsTrying 4 before new ok disk memory would = (subst (λ (k : Option Counts). IsTrying 4 k new ok disk memory would) is trying) few in
-    (h.added o, λ within. ⊎_elim no_disk no_memory (h.goes_on w within))
-
-pub hit_trying : (old new : Option Counts) (ok disk memory would : Type 0) (before : Counts) → old ≡ Some before → before.calls + 4 < 2 ^ 64 → IsTrying 4 old new ok disk memory would → disk → StopsWithin 4 before
-hit_trying old new ok disk memory would before is few trying d =
-    let h : CountsTrying 4 before new ok disk memory would = (subst (λ (k : Option Counts). IsTrying 4 k new ok disk memory would) is trying) few in
-    (h.stopped d).1
-
-pub rest_trying : (old new : Option Counts) (ok disk memory would : Type 0) (before : Counts) → old ≡ Some before → before.calls + 4 < 2 ^ 64 → IsTrying 4 old new ok disk memory would → (ok → ⊥) → (disk → ⊥) → new ≡ Some before
-rest_trying old new ok disk memory would before is few trying no_ok no_disk =
-    let h : CountsTrying 4 before new ok disk memory would = (subst (λ (k : Option Counts). IsTrying 4 k new ok disk memory would) is trying) few in
-    h.other no_ok no_disk
-
-module _ {J : Type 0} (entries : J → List TermEntry) (has_failed tells : J → Bool) (may_leave : J → List ℕ → Type 0) (counts : J → Option Counts) where
+module _ {J : Type 0} (g : Ghosts J TermEntry) where
   abbrev pub Ready : ℕ → J → List Message → TerminalState → List ℕ → Option ℕ → Counts → Type 0
-  Ready n now heard s places armed before = IsReady entries has_failed tells may_leave counts n now heard s places armed before
+  Ready n now heard s places armed before = IsReady g n now heard s places armed before
 
   abbrev pub Line : ℕ → J → List Message → TerminalState → List ℕ → Option ℕ → Outcome → Counts → Turn → Result Said LineFault → Type 0
-  Line n now heard s places armed ended before turn result = LineDone entries has_failed tells may_leave counts n now heard s places armed ended before turn result
+  Line n now heard s places armed ended before turn result = LineDone g n now heard s places armed ended before turn result
 
   abbrev StandsAt : J → List Message → List ℕ → Bool → EndFate → Type 0
-  StandsAt now heard places on fate = TerminalCorresponds (Has term_reading) (may_leave now) on (entries now) fate.state.sent heard fate.state places fate.doubt
+  StandsAt now heard places on fate = TerminalCorresponds (Has term_reading) (g.may_leave now) on (g.entries now) fate.state.sent heard fate.state places fate.doubt
 
   abbrev pub Grows : J → J → List TermEntry → Counts → Type 0
-  Grows old new added before = Grew entries has_failed tells may_leave counts old new added before
+  Grows old new added before = Grew g old new added before
 
   abbrev pub Breaks : J → J → List TermEntry → Counts → Type 0
-  Breaks old new added before = Broke entries has_failed tells may_leave counts old new added before
+  Breaks old new added before = Broke g old new added before
 
   abbrev pub Rests : J → J → Counts → Type 0
-  Rests old new before = Rested entries has_failed tells may_leave counts old new before
+  Rests old new before = Rested g old new before
 
   -- what a call says where nothing failed before it, of a disk whose numbers are these
   abbrev pub Where : J → (Counts → Type 0) → Type 0
-  Where old P = (before : Counts) → counts old ≡ Some before → before.calls + 4 < 2 ^ 64 → IsTrue (tells old) → has_failed old ≡ false → P before
+  Where old P = (before : Counts) → g.counts old ≡ Some before → before.calls + 4 < 2 ^ 64 → IsTrue (g.tells old) → g.has_failed old ≡ false → P before
 
   -- the terminal's entries are those of the state
-  pub settled_are : (n : ℕ) (now : J) (heard : List Message) (s : TerminalState) (places : List ℕ) (armed : Option ℕ) (before : Counts) → Ready n now heard s places armed before → entries now ≡ s.settled
+  pub settled_are : (n : ℕ) (now : J) (heard : List Message) (s : TerminalState) (places : List ℕ) (armed : Option ℕ) (before : Counts) → Ready n now heard s places armed before → g.entries now ≡ s.settled
   settled_are n now heard s places armed before ready = ready.stands.end.entries_are refl
 
   pub grown_ready : (n : ℕ) (old new : J) (heard : List Message) (s : TerminalState) (places : List ℕ) (armed : Option ℕ) (before : Counts) (work : Work) (left : Left armed before)
       → Ready (n + 4) old heard s places armed before → Grows old new work.added before → Ready n new heard (worked s work) places left.left (counted 4 before)
   grown_ready n old new heard s places armed before work left ready grew =
-      let is : entries old ≡ s.settled = ready.stands.end.entries_are refl in
+      let is : g.entries old ≡ s.settled = ready.stands.end.entries_are refl in
       let few : before.calls + (n + 4) < 2 ^ 64 = ready.few in
       record {
         told = grew.told;
@@ -146,15 +131,15 @@ module _ {J : Type 0} (entries : J → List TermEntry) (has_failed tells : J →
         counts_are = grew.counts_are;
         few = omega (arith, few);
         is_armed = left.is_armed;
-        stands = call_done (Has term_reading) (may_leave new) (may_leave old) (entries old) (entries new) s.sent (s.sent ++ work.sent) heard s places (no_doubt 0) work ready.stands (grew.grown ∙ ap (λ (l : List TermEntry). l ++ work.added) is) refl grew.each;
+        stands = call_done (Has term_reading) (g.may_leave new) (g.may_leave old) (g.entries old) (g.entries new) s.sent (s.sent ++ work.sent) heard s places (no_doubt 0) work ready.stands (grew.grown ∙ ap (λ (l : List TermEntry). l ++ work.added) is) refl grew.each;
       }
 
   pub rested_ready : (n : ℕ) (old new : J) (heard : List Message) (s : TerminalState) (places : List ℕ) (armed : Option ℕ) (before : Counts)
       → Ready n old heard s places armed before → Rests old new before → Ready n new heard s places armed before
   rested_ready n old new heard s places armed before ready rested =
-      let is : entries old ≡ s.settled = ready.stands.end.entries_are refl in
+      let is : g.entries old ≡ s.settled = ready.stands.end.entries_are refl in
       let none : s.tried ≡ [] = ready.stands.end.none_tried refl in
-      let each : EachHas (Has term_reading) (may_leave new) s.settled = subst (λ (l : List TermEntry). EachHas (Has term_reading) (may_leave new) l) (rested.same ∙ is) rested.each in
+      let each : EachHas (Has term_reading) (g.may_leave new) s.settled = subst (λ (l : List TermEntry). EachHas (Has term_reading) (g.may_leave new) l) (rested.same ∙ is) rested.each in
       record {
         told = rested.told;
         works = rested.works;
@@ -166,19 +151,12 @@ module _ {J : Type 0} (entries : J → List TermEntry) (has_failed tells : J →
             on_is = ready.stands.end.on_is;
             entries_are = λ on. rested.same ∙ is;
             none_tried = λ on. none;
-            holds = subst (λ (l : List TermEntry). Holds (Has term_reading) (may_leave new) s.settled l (no_doubt 0)) (sym none) (holds_settled (Has term_reading) (may_leave new) s.settled each);
+            holds = subst (λ (l : List TermEntry). Holds (Has term_reading) (g.may_leave new) s.settled l (no_doubt 0)) (sym none) (holds_settled (Has term_reading) (g.may_leave new) s.settled each);
           };
           sent_is = refl;
           answers_are = ready.stands.answers_are;
         };
       }
-
-  -- a call that added nothing, of a journal whose images have its entries where nothing failed
-  pub rest_of : (old new : J) (before : Counts) → ((journal : J) (image : List ℕ) → IsTrue (tells journal) → has_failed journal ≡ false → may_leave journal image → Has term_reading image (entries journal))
-      → IsTrue (tells old) → has_failed old ≡ false → tells new ≡ tells old → has_failed new ≡ has_failed old → entries new ≡ entries old → counts new ≡ Some before → Rests old new before
-  rest_of old new before kept told works same_told same_works same counts_are =
-      let told_now : IsTrue (tells new) = subst (λ (b : Bool). IsTrue b) (sym same_told) told in
-      record { told = told_now; works = same_works ∙ works; counts_are = counts_are; same = same; each = λ image left. kept new image told_now (same_works ∙ works) left }
 
   -- a line that makes no step, or no further one
   pub said_line : (n : ℕ) (now : J) (heard : List Message) (s : TerminalState) (places : List ℕ) (armed : Option ℕ) (ended : Outcome) (before : Counts) (outcome : Outcome) (given : Said)
@@ -235,49 +213,95 @@ module _ {J : Type 0} (entries : J → List TermEntry) (has_failed tells : J →
       → Ready n old heard s places armed before → Breaks old now (entry ∷ []) before → Line m now heard s places armed ended before (behind (added_by action entry) rest) (Err Disk)
   broken_line n m old now heard s places None ended before action entry rest ready broke = absurd (subst (λ (k : Option ℕ). IsNear before k) ready.is_armed broke.within)
   broken_line n m old now heard s places (Some c) ended before action entry rest ready broke =
-      let is : entries old ≡ s.settled = ready.stands.end.entries_are refl in
+      let is : g.entries old ≡ s.settled = ready.stands.end.entries_are refl in
       let near : (before.calls < before.calls + c) × (before.calls + c ≤ before.calls + 4) = subst (λ (k : Option ℕ). IsNear before k) ready.is_armed.1 broke.within in
       let high : c ≤ 4 = omega (arith, near.1) in
       let same : end_armed (Some c) s (behind (added_by action entry) rest) ended ≡ _ = cond-true (nat_le c 4) _ _ (le-leb c 4 high) in
-      let either : EachHasEither (Has term_reading) (may_leave now) s.settled (s.settled ++ entry ∷ []) = subst (λ (l : List TermEntry). EachHasEither (Has term_reading) (may_leave now) l (l ++ entry ∷ [])) is broke.either in
+      let either : EachHasEither (Has term_reading) (g.may_leave now) s.settled (s.settled ++ entry ∷ []) = subst (λ (l : List TermEntry). EachHasEither (Has term_reading) (g.may_leave now) l (l ++ entry ∷ [])) is broke.either in
       record {
         some = refl;
-        stands = subst (λ (f : EndFate). StandsAt now heard places false f) (sym same) (call_broken (Has term_reading) (may_leave now) (may_leave old) (entries old) (entries now) s.sent heard s places (no_doubt 0) (added_by action entry) ready.stands either);
+        stands = subst (λ (f : EndFate). StandsAt now heard places false f) (sym same) (call_broken (Has term_reading) (g.may_leave now) (g.may_leave old) (g.entries old) (g.entries now) s.sent heard s places (no_doubt 0) (added_by action entry) ready.stands either);
         outcome_is = ap (λ (f : EndFate). f.outcome) (sym same);
       }
 
   -- a line of one step that adds an entry
   pub add_ok : (old new : J) (entry : TermEntry) (outcome : Outcome) (given : Said) → given ≡ record { outcome = outcome; sent = None }
-      → Where old (λ before. Grows old new (entry ∷ []) before) → AddDone entries has_failed tells may_leave counts old new (entry ∷ []) outcome (Ok given)
+      → Where old (λ before. Grows old new (entry ∷ []) before) → AddDone g old new (entry ∷ []) outcome (Ok given)
   add_ok old new entry outcome given is grows = λ action heard s places armed ended before ready.
       let grew : Grows old new (entry ∷ []) before = grows before ready.counts_are ready.few ready.told ready.works in
       let left : Left armed before = left_of armed before ready.is_armed grew.past in
       line_behind 0 new heard s places armed ended before left action entry (says outcome) (Ok given)
       (said_line 0 new heard (worked s (added_by action entry)) places left.left ended (counted 4 before) outcome given (grown_ready 0 old new heard s places armed before (added_by action entry) left ready grew) is)
 
-  pub add_disk : (old new : J) (entry : TermEntry) (outcome : Outcome) → Where old (λ before. Breaks old new (entry ∷ []) before) → AddDone entries has_failed tells may_leave counts old new (entry ∷ []) outcome (Err Disk)
+  pub add_disk : (old new : J) (entry : TermEntry) (outcome : Outcome) → Where old (λ before. Breaks old new (entry ∷ []) before) → AddDone g old new (entry ∷ []) outcome (Err Disk)
   add_disk old new entry outcome breaks = λ action heard s places armed ended before ready.
       broken_line 4 4 old new heard s places armed ended before action entry (says outcome) ready (breaks before ready.counts_are ready.few ready.told ready.works)
 
-  -- the clauses of a call that adds an entry
-  pub grew_adding : (old new : J) (added : List TermEntry) (ok disk would : Type 0) → entries new ≡ entries old ++ added → (IsTrue (tells old) → EveryImageHas may_leave term_reading new (entries new)) → has_failed new ≡ false → tells new ≡ tells old
-      → IsAdding 4 (counts old) (counts new) ok disk would → ok → (disk → ⊥) → (has_failed old ≡ false → would) → Where old (λ before. Grows old new added before)
-  grew_adding old new added ok disk would grown each works same adding o no_disk w = λ before is few told worked_before.
-      let well = well_adding (counts old) (counts new) ok disk would before is few adding o no_disk (w worked_before) in
-      record { told = subst (λ (b : Bool). IsTrue b) (sym same) told; works = works; counts_are = well.0; past = well.1; grown = grown; each = each told }
+  -- the laws of a journal that a line rests on
+  abbrev pub Kept : Type 0
+  Kept = (journal : J) (image : List ℕ) → IsTrue (g.tells journal) → g.has_failed journal ≡ false → g.may_leave journal image → Has term_reading image (g.entries journal)
 
-  pub grew_trying : (old new : J) (added : List TermEntry) (ok disk memory would : Type 0) → entries new ≡ entries old ++ added → (IsTrue (tells old) → EveryImageHas may_leave term_reading new (entries new)) → has_failed new ≡ false → tells new ≡ tells old
-      → IsTrying 4 (counts old) (counts new) ok disk memory would → ok → (disk → ⊥) → (memory → ⊥) → would → Where old (λ before. Grows old new added before)
-  grew_trying old new added ok disk memory would grown each works same trying o no_disk no_memory w = λ before is few told worked_before.
-      let well = well_trying (counts old) (counts new) ok disk memory would before is few trying o no_disk no_memory w in
-      record { told = subst (λ (b : Bool). IsTrue b) (sym same) told; works = works; counts_are = well.0; past = well.1; grown = grown; each = each told }
+  abbrev pub CountsNow : Type 0
+  CountsNow = (journal : J) (t : ℕ) (image : List ℕ) → IsTrue (g.tells journal) → t ≤ g.moment journal → g.may_leave journal image → g.left_since journal t image
 
-  pub broke_adding : (old new : J) (added : List TermEntry) (ok disk would : Type 0) → (IsTrue (tells old) → EveryImage may_leave new (HasEither term_reading (entries old) (entries old ++ added)))
-      → IsAdding 4 (counts old) (counts new) ok disk would → disk → Where old (λ before. Breaks old new added before)
-  broke_adding old new added ok disk would either adding d = λ before is few told worked_before.
-      record { within = hit_adding (counts old) (counts new) ok disk would before is few adding d; either = either told }
+  abbrev pub ToldIsReadable : Type 0
+  ToldIsReadable = (journal : J) → IsTrue (g.tells journal) → IsTrue (g.is_readable journal)
 
-  pub broke_trying : (old new : J) (added : List TermEntry) (ok disk memory would : Type 0) → (IsTrue (tells old) → EveryImage may_leave new (HasEither term_reading (entries old) (entries old ++ added)))
-      → IsTrying 4 (counts old) (counts new) ok disk memory would → disk → Where old (λ before. Breaks old new added before)
-  broke_trying old new added ok disk memory would either trying d = λ before is few told worked_before.
-      record { within = hit_trying (counts old) (counts new) ok disk memory would before is few trying d; either = either told }
+  -- a call added an entry
+  pub grew : Kept → ToldIsReadable → (old new : J) (entry : TermEntry) → Adds g old new (entry ∷ []) done → Where old (λ before. Grows old new (entry ∷ []) before)
+  grew kept readable old new entry adds = λ before is few told worked.
+      let h = tried 4 (g.counts old) (g.counts new) _ _ _ _ before is few adds.counts in
+      let told_now : IsTrue (g.tells new) = adds.stays.tells ∙ told in
+      let works : g.has_failed new ≡ false = adds.stays.still (λ e. cc) ∙ worked in
+      record {
+        told = told_now;
+        works = works;
+        counts_are = h.added refl;
+        past = λ within. ⊎_elim (λ e. cc) (λ e. cc) (h.goes_on (worked, λ e. cc) within);
+        grown = adds.grown (readable old told);
+        each = λ image left. kept new image told_now works left;
+      }
+
+  -- a device call of it failed
+  pub broke : Kept → CountsNow → (old new : J) (entry : TermEntry) (fault : HostFault) → fault ≡ H.Disk → Adds g old new (entry ∷ []) (failed_by fault) → Where old (λ before. Breaks old new (entry ∷ []) before)
+  broke kept counts_now old new entry fault disk adds = λ before is few told worked.
+      let h = tried 4 (g.counts old) (g.counts new) _ _ _ _ before is few adds.counts in
+      let told_now : IsTrue (g.tells new) = adds.stays.tells ∙ told in
+      let only = adds.images told in
+      record {
+        within = (h.stopped (ap (λ (f : HostFault). failed_by f) disk)).1;
+        either = λ image left. ⊎_elim (λ earlier. inl (kept old image told worked earlier)) (λ now. now) (only.each image (counts_now new (g.moment old) image told_now only.later left));
+      }
+
+  -- a refusal is no failure of the disk
+  pub still_works : (old new : J) (added : List TermEntry) (fault : HostFault) → fault ≡ H.Memory → Adds g old new added (failed_by fault) → g.has_failed new ≡ g.has_failed old
+  still_works old new added fault lack adds = adds.stays.still (λ e. cc)
+
+  unchanged : Kept → (old new : J) (added : List TermEntry) (result : Result (Unit {0}) HostFault) → Adds g old new added result → (result ≡ failed_by H.Disk → ⊥) → g.entries new ≡ g.entries old
+      → (before : Counts) → g.counts new ≡ Some before → IsTrue (g.tells old) → g.has_failed old ≡ false → Rests old new before
+  unchanged kept old new added result adds no_disk same before counts_are told worked =
+      let told_now : IsTrue (g.tells new) = adds.stays.tells ∙ told in
+      let works : g.has_failed new ≡ false = adds.stays.still no_disk ∙ worked in
+      record { told = told_now; works = works; counts_are = counts_are; same = same; each = λ image left. kept new image told_now works left }
+
+  -- it was refused
+  pub rested : Kept → (old new : J) (entry : TermEntry) (fault : HostFault) → fault ≡ H.Memory → Adds g old new (entry ∷ []) (failed_by fault) → Where old (λ before. Rests old new before)
+  rested kept old new entry fault lack adds = λ before is few told worked.
+      let sure : Adds g old new (entry ∷ []) (failed_by H.Memory) = subst (λ (f : HostFault). Adds g old new (entry ∷ []) (failed_by f)) lack adds in
+      let h = tried 4 (g.counts old) (g.counts new) _ _ _ _ before is few sure.counts in
+      unchanged kept old new (entry ∷ []) (failed_by H.Memory) sure (λ e. cc) sure.stays.refused before (h.other (λ e. cc) (λ e. cc)) told worked
+
+  -- nothing was to be added
+  pub rested_none : Kept → ToldIsReadable → (old new : J) (result : Result (Unit {0}) HostFault) → Adds g old new [] result → Where old (λ before. Rests old new before)
+  rested_none kept readable old new (Ok tt) adds = λ before is few told worked.
+      let h = tried 0 (g.counts old) (g.counts new) _ _ _ _ before is (omega (arith, few)) adds.counts in
+      let plus : before.calls + 0 ≡ before.calls = omega arith in
+      let counts_are : g.counts new ≡ Some before = h.added refl ∙ ap (λ (n : ℕ). let k : Counts = record { calls = n; stop = before.stop } in Some k) plus in
+      unchanged kept old new [] done adds (λ e. cc) (adds.grown (readable old told) ∙ append-nil (g.entries old)) before counts_are told worked
+  rested_none kept readable old new (Err H.Disk) adds = λ before is few told worked.
+      let h = tried 0 (g.counts old) (g.counts new) _ _ _ _ before is (omega (arith, few)) adds.counts in
+      absurd ((h.stopped refl).0.1 refl)
+  rested_none kept readable old new (Err H.Failed) adds = λ before is few told worked. absurd ((adds.failed_before refl).1 refl)
+  rested_none kept readable old new (Err H.Memory) adds = λ before is few told worked.
+      let h = tried 0 (g.counts old) (g.counts new) _ _ _ _ before is (omega (arith, few)) adds.counts in
+      unchanged kept old new [] (failed_by H.Memory) adds (λ e. cc) adds.stays.refused before (h.other (λ e. cc) (λ e. cc)) told worked

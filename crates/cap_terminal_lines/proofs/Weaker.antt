@@ -1,7 +1,8 @@
 -- A line that needs fewer calls.
-use Rattle.std.proofs.Common.{ℕ, ◌+◌, ◌^◌, ◌<◌, ◌≤◌, Bool, List, Option, Ok, Err, arith}
+use Rattle.std.proofs.Common.{ℕ, ◌+◌, ◌^◌, ◌<◌, ◌≤◌, List, Option, Ok, Err, arith}
 use Rattle.std.specs.Prelude.{Result}
 use Rattle.cap_disk.specs.Disk.{Counts}
+use Rattle.cap_journal.specs.declared.journal.Journal.{Ghosts}
 use Rattle.cap_msgs.specs.declared.message.Message.{Message}
 use Rattle.cap_entries.specs.declared.terminal.TermEntry.{TermEntry}
 use Rattle.cap_schedule.specs.declared.outcome.Outcome.{Outcome}
@@ -12,15 +13,15 @@ use Rattle.cap_plays.specs.Turns.{Turn}
 use Rattle.cap_terminal_lines.specs.declared.said.Said.{Said}
 use Rattle.cap_terminal_lines.specs.Acts.{IsReady, LineDone}
 
-module _ {J : Type 0} (entries : J → List TermEntry) (has_failed tells : J → Bool) (may_leave : J → List ℕ → Type 0) (counts : J → Option Counts) where
+module _ {J : Type 0} (g : Ghosts J TermEntry) where
   pub less_ready : (n m : ℕ) (now : J) (heard : List Message) (s : TerminalState) (places : List ℕ) (armed : Option ℕ) (before : Counts) → n ≤ m
-      → IsReady entries has_failed tells may_leave counts m now heard s places armed before → IsReady entries has_failed tells may_leave counts n now heard s places armed before
+      → IsReady g m now heard s places armed before → IsReady g n now heard s places armed before
   less_ready n m now heard s places armed before le ready =
       let few : before.calls + m < 2 ^ 64 = ready.few in
       record { told = ready.told; works = ready.works; counts_are = ready.counts_are; few = omega (arith, few, le); is_armed = ready.is_armed; stands = ready.stands }
 
   pub more_line : (n m : ℕ) (now : J) (heard : List Message) (s : TerminalState) (places : List ℕ) (armed : Option ℕ) (ended : Outcome) (before : Counts) (turn : Turn) (result : Result Said LineFault) → n ≤ m
-      → LineDone entries has_failed tells may_leave counts n now heard s places armed ended before turn result → LineDone entries has_failed tells may_leave counts m now heard s places armed ended before turn result
+      → LineDone g n now heard s places armed ended before turn result → LineDone g m now heard s places armed ended before turn result
   more_line n m now heard s places armed ended before turn (Ok given) le done =
       let few : done.after.calls ≤ before.calls + n = done.goes_on.few in
       record {

@@ -1,6 +1,7 @@
 -- What a line of a schedule makes of a terminal over any journal, in the words of the model.
-use Rattle.std.specs.Prelude.{◌≡◌, ⊤, ℕ, ◌+◌, ◌^◌, ◌<◌, Bool, true, false, List, [], ◌∷◌, ◌++◌, length, Option, Some, None, Result, Ok, Err, IsTrue, IsSome}
+use Rattle.std.specs.Prelude.{◌≡◌, ⊤, ℕ, ◌+◌, ◌^◌, ◌<◌, true, false, List, [], ◌∷◌, ◌++◌, length, Option, Some, None, Result, Ok, Err, IsTrue, IsSome}
 use Rattle.cap_disk.specs.Disk.{Counts}
+use Rattle.cap_journal.specs.declared.journal.Journal.{Ghosts}
 use Rattle.cap_journal.specs.File.{Has}
 use Rattle.cap_journal.specs.Told.{StopsWithin, counted}
 use Rattle.cap_leaf.specs.Date.{DateParts}
@@ -40,33 +41,33 @@ IsNoiseTo reads entries (Hear bytes) = IsNotOurs entries (reads bytes)
 IsNoiseTo reads entries _ = ⊤
 
 -- over what contracts see of a terminal, which is its journal
-module _ {J : Type 0} (entries : J → List TermEntry) (has_failed tells : J → Bool) (may_leave : J → List ℕ → Type 0) (counts : J → Option Counts) where
+module _ {J : Type 0} (g : Ghosts J TermEntry) where
   -- it is on, over a disk that tells and has not failed, and it stands to a state of the model with nothing in doubt. `armed` is what is armed on its
   -- disk, and so many calls can still be counted
   pub record IsReady (n : ℕ) (now : J) (heard : List Message) (s : TerminalState) (places : List ℕ) (armed : Option ℕ) (before : Counts) : Type 0 where
-    pub told : IsTrue (tells now)
-    pub works : has_failed now ≡ false
-    pub counts_are : counts now ≡ Some before
+    pub told : IsTrue (g.tells now)
+    pub works : g.has_failed now ≡ false
+    pub counts_are : g.counts now ≡ Some before
     pub few : before.calls + n < 2 ^ 64
     pub is_armed : IsArmed armed before
-    pub stands : TerminalCorresponds (Has term_reading) (may_leave now) true (entries now) s.sent heard s places (no_doubt 0)
+    pub stands : TerminalCorresponds (Has term_reading) (g.may_leave now) true (g.entries now) s.sent heard s places (no_doubt 0)
 
   -- the line was done to its end: the terminal is on, and stands to the state after the line. It has said the line's outcome, and the text of what
   -- the line sends
   pub record IsDone (n : ℕ) (now : J) (heard : List Message) (s : TerminalState) (places : List ℕ) (armed : Option ℕ) (ended : Outcome) (before : Counts) (turn : Turn) (said : Said) : Type 0 where
-    pub told : IsTrue (tells now)
-    pub works : has_failed now ≡ false
+    pub told : IsTrue (g.tells now)
+    pub works : g.has_failed now ≡ false
     pub after : Counts
-    pub counts_are : counts now ≡ Some after
+    pub counts_are : g.counts now ≡ Some after
     pub goes_on : GoesOn n before after
-    pub stands : TerminalCorresponds (Has term_reading) (may_leave now) true (entries now) (end_armed armed s turn ended).state.sent heard (end_armed armed s turn ended).state places (end_armed armed s turn ended).doubt
+    pub stands : TerminalCorresponds (Has term_reading) (g.may_leave now) true (g.entries now) (end_armed armed s turn ended).state.sent heard (end_armed armed s turn ended).state places (end_armed armed s turn ended).doubt
     pub outcome_is : said.outcome ≡ (end_armed armed s turn ended).outcome
     pub sent_is : IsSent said.sent (sent_in turn.works)
 
   -- the armed call ended the line: the terminal is off, and stands to the state that is left
   pub record IsBroken (now : J) (heard : List Message) (s : TerminalState) (places : List ℕ) (armed : Option ℕ) (ended : Outcome) (turn : Turn) : Type 0 where
     pub some : IsSome armed
-    pub stands : TerminalCorresponds (Has term_reading) (may_leave now) false (entries now) (end_armed armed s turn ended).state.sent heard (end_armed armed s turn ended).state places (end_armed armed s turn ended).doubt
+    pub stands : TerminalCorresponds (Has term_reading) (g.may_leave now) false (g.entries now) (end_armed armed s turn ended).state.sent heard (end_armed armed s turn ended).state places (end_armed armed s turn ended).doubt
     pub outcome_is : ended ≡ (end_armed armed s turn ended).outcome
 
   -- by the answer; after want of memory nothing is said
@@ -97,27 +98,27 @@ module _ {J : Type 0} (entries : J → List TermEntry) (has_failed tells : J →
   abbrev pub ActsAs : (old new : J) → (sent : ℕ) → (answers : List (List ℕ)) → (moment : ℕ) → Order → Result Said LineFault → Type 0
   ActsAs old new sent answers moment order result =
       (reads : List ℕ → Received) (heard : List Message) (s : TerminalState) (places : List ℕ) (armed : Option ℕ) (ended : Outcome) (before : Counts)
-      → IsReader reads → IsReady 8 old heard s places armed before → sent ≡ length s.sent → AreTexts answers heard → IsNoiseTo reads (entries old) order
+      → IsReader reads → IsReady 8 old heard s places armed before → sent ≡ length s.sent → AreTexts answers heard → IsNoiseTo reads (g.entries old) order
       → (created : DateParts) × IsMoment moment created × LineDone 8 new heard s places armed ended before (turn_of reads s places moment created order) result
 
   -- a call of the terminal added these entries as one group
   pub record Grew (old new : J) (added : List TermEntry) (before : Counts) : Type 0 where
-    pub told : IsTrue (tells new)
-    pub works : has_failed new ≡ false
-    pub counts_are : counts new ≡ Some (counted 4 before)
+    pub told : IsTrue (g.tells new)
+    pub works : g.has_failed new ≡ false
+    pub counts_are : g.counts new ≡ Some (counted 4 before)
     pub past : StopsWithin 4 before → ⊥
-    pub grown : entries new ≡ entries old ++ added
-    pub each : EachHas (Has term_reading) (may_leave new) (entries new)
+    pub grown : g.entries new ≡ g.entries old ++ added
+    pub each : EachHas (Has term_reading) (g.may_leave new) (g.entries new)
 
   -- one of its device calls failed
   pub record Broke (old new : J) (added : List TermEntry) (before : Counts) : Type 0 where
     pub within : StopsWithin 4 before
-    pub either : EachHasEither (Has term_reading) (may_leave new) (entries old) (entries old ++ added)
+    pub either : EachHasEither (Has term_reading) (g.may_leave new) (g.entries old) (g.entries old ++ added)
 
   -- it added nothing
   pub record Rested (old new : J) (before : Counts) : Type 0 where
-    pub told : IsTrue (tells new)
-    pub works : has_failed new ≡ false
-    pub counts_are : counts new ≡ Some before
-    pub same : entries new ≡ entries old
-    pub each : EachHas (Has term_reading) (may_leave new) (entries new)
+    pub told : IsTrue (g.tells new)
+    pub works : g.has_failed new ≡ false
+    pub counts_are : g.counts new ≡ Some before
+    pub same : g.entries new ≡ g.entries old
+    pub each : EachHas (Has term_reading) (g.may_leave new) (g.entries new)

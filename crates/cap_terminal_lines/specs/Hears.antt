@@ -1,6 +1,7 @@
 -- What a terminal makes of what it hears, in the words of the model.
 use Rattle.std.specs.Prelude.{◌≡◌, ℕ, Bool, List, [], ◌++◌, Option, Some, None, Result, Ok, Err}
 use Rattle.cap_disk.specs.Disk.{Counts}
+use Rattle.cap_journal.specs.declared.journal.Journal.{Ghosts}
 use Rattle.cap_msgs.specs.declared.message.Message.{Message}
 use Rattle.cap_msgs.specs.Received.{Received}
 use Rattle.cap_msgs.specs.Reads.{Reads}
@@ -15,10 +16,10 @@ use Rattle.cap_schedule.specs.declared.outcome.Outcome.{Outcome}
 use Rattle.cap_world.specs.World.{TerminalState, TerminalAction}
 use Rattle.cap_plays.specs.declared.fault.LineFault.{LineFault}
 use Rattle.cap_plays.specs.declared.fault.LineFault.TheVariants.{Disk, Memory}
-use Rattle.cap_plays.specs.Turns.{makes, Decided, decides_on, fault_outcome, hears, nth}
+use Rattle.cap_plays.specs.Turns.{makes, Decided, on_response, decides_on, fault_outcome, hears, nth}
 use Rattle.cap_terminal_lines.specs.declared.said.Said.{Said}
 use Rattle.cap_plays.specs.Texts.{AreTexts}
-use Rattle.cap_terminal_lines.specs.Acts.{IsReady, LineDone, TurnDone}
+use Rattle.cap_terminal_lines.specs.Acts.{IsReady, LineDone, AddDone, TurnDone}
 
 -- the decision on a sale, where it is one
 abbrev pub decision_in : Handled → Option AuthResponse
@@ -43,22 +44,30 @@ refusal_of F.NotAwaited = Ok (says_only (fault_outcome F.NotAwaited))
 refusal_of (F.Stale m acked) = Ok (says_only (fault_outcome (F.Stale m acked)))
 refusal_of (F.Beyond m len) = Ok (says_only (fault_outcome (F.Beyond m len)))
 
-module _ {J : Type 0} (entries : J → List TermEntry) (has_failed tells : J → Bool) (may_leave : J → List ℕ → Type 0) (counts : J → Option Counts) where
+-- a sale by the host's answer to it
+abbrev pub on_answer : (walks_out : Bool) → AuthResponse → Decided
+on_answer walks_out answer = on_response walks_out answer.n answer.response answer.code
+
+module _ {J : Type 0} (g : Ghosts J TermEntry) where
+  -- a step that adds what is decided on a sale
+  abbrev pub SaleDone : (old new : J) → Decided → Result Said LineFault → Type 0
+  SaleDone old new decision result = AddDone g old new decision.added decision.outcome result
+
   -- a step that adds what is decided, whatever the model calls it
   abbrev pub DecidedDone : (old new : J) → (List TermEntry → Decided) → Result Said LineFault → Type 0
   DecidedDone old new decides result =
-      (action : TerminalAction) → TurnDone entries has_failed tells may_leave counts 4 old new (λ s. makes (record { action = action; added = (decides s.settled).added; sent = [] }) (decides s.settled).outcome) result
+      (action : TerminalAction) → TurnDone g 4 old new (λ s. makes (record { action = action; added = (decides s.settled).added; sent = [] }) (decides s.settled).outcome) result
 
   -- a step that takes what arrives, and adds what is decided
   abbrev pub HeardDone : (old new : J) → (walks_out : Bool) → (text : List ℕ) → Result Said LineFault → Type 0
   HeardDone old new walks_out text result =
       (received : Received) → Reads text received → (action : TerminalAction)
-      → TurnDone entries has_failed tells may_leave counts 4 old new
+      → TurnDone g 4 old new
       (λ s. makes (record { action = action; added = (takes s.settled received).added ++ (decides_on walks_out s.settled received).added; sent = [] }) (decides_on walks_out s.settled received).outcome) result
 
   -- one of the answers that count is delivered; these are their texts
   abbrev pub DownDone : (old new : J) → (walks_out : Bool) → (texts : List (List ℕ)) → ℕ → Result Said LineFault → Type 0
   DownDone old new walks_out texts j result =
       (heard : List Message) (s : TerminalState) (places : List ℕ) (armed : Option ℕ) (ended : Outcome) (before : Counts)
-      → IsReady entries has_failed tells may_leave counts 4 old heard s places armed before → AreTexts texts heard
-      → LineDone entries has_failed tells may_leave counts 4 new heard s places armed ended before (hears walks_out s j (nth places j)) result
+      → IsReady g 4 old heard s places armed before → AreTexts texts heard
+      → LineDone g 4 new heard s places armed ended before (hears walks_out s j (nth places j)) result

@@ -1,3 +1,4 @@
 pub mod Acts
+pub mod Made
 pub mod Sent
 pub mod Hears

@@ -28,7 +28,7 @@ pub fn act<J: Journal<TermEntry>>(
     requires moment { moment ≤ 253402300799 }
     requires sent { sent + 1 < 2 ^ 64 }
     requires range { OrderInRange order.now }
-    ensures acts { ActsAs J.entries J.has_failed J.tells J.may_leave J.counts terminal.old terminal.new sent (texts_in answers.now) moment order.now result }
+    ensures acts { ActsAs J.Journal terminal.old terminal.new sent (texts_in answers.now) moment order.now result }
     ensures works { OnOk result (J.has_failed terminal.new ≡ J.has_failed terminal.old) }
 {
     date_of(moment);

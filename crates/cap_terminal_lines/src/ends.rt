@@ -19,7 +19,7 @@ pub(crate) fn complete<J: Journal<TermEntry>>(
     approved: Approved,
 ) -> Result<Said, LineFault>
     requires { IsLive (J.entries terminal.old) approved.n approved.amount approved.account }
-    ensures done { AddDone J.entries J.has_failed J.tells J.may_leave J.counts terminal.old terminal.new (Completed approved.n approved.code ∷ []) (Sold approved.n) result }
+    ensures done { AddDone J.Journal terminal.old terminal.new (Completed approved.n approved.code ∷ []) (Sold approved.n) result }
     ensures works { OnOk result (J.has_failed terminal.new ≡ J.has_failed terminal.old) }
 {
     match terminal.complete(approved) {
@@ -35,7 +35,7 @@ pub(crate) fn give_up<J: Journal<TermEntry>>(
     approved: Approved,
 ) -> Result<Said, LineFault>
     requires { IsLive (J.entries terminal.old) approved.n approved.amount approved.account }
-    ensures done { AddDone J.entries J.has_failed J.tells J.may_leave J.counts terminal.old terminal.new (Voided approved.n ∷ []) (GivenUp approved.n) result }
+    ensures done { AddDone J.Journal terminal.old terminal.new (Voided approved.n ∷ []) (GivenUp approved.n) result }
     ensures works { OnOk result (J.has_failed terminal.new ≡ J.has_failed terminal.old) }
 {
     let n = approved.n();
@@ -52,7 +52,7 @@ pub(crate) fn void_begun<J: Journal<TermEntry>>(
     begun: Begun,
 ) -> Result<Said, LineFault>
     requires { IsLive (J.entries terminal.old) begun.n begun.amount begun.account }
-    ensures done { AddDone J.entries J.has_failed J.tells J.may_leave J.counts terminal.old terminal.new (Voided begun.n ∷ []) (GivenUp begun.n) result }
+    ensures done { AddDone J.Journal terminal.old terminal.new (Voided begun.n ∷ []) (GivenUp begun.n) result }
     ensures works { OnOk result (J.has_failed terminal.new ≡ J.has_failed terminal.old) }
 {
     let n = begun.n();
@@ -69,7 +69,7 @@ pub(crate) fn decline<J: Journal<TermEntry>>(
     begun: Begun,
 ) -> Result<Said, LineFault>
     requires { IsLive (J.entries terminal.old) begun.n begun.amount begun.account }
-    ensures done { AddDone J.entries J.has_failed J.tells J.may_leave J.counts terminal.old terminal.new (Declined begun.n ∷ []) (DeclinedSale begun.n) result }
+    ensures done { AddDone J.Journal terminal.old terminal.new (Declined begun.n ∷ []) (DeclinedSale begun.n) result }
     ensures works { OnOk result (J.has_failed terminal.new ≡ J.has_failed terminal.old) }
 {
     let n = begun.n();

@@ -1,10 +1,9 @@
 // What a terminal hears.
 ghost use Rattle.std.specs.Prelude.{◌≡◌, [], false, Some, None, Ok, MatchOption, OnOk};
 ghost use Rattle.cap_terminal.specs.Live.{IsLive};
-ghost use Rattle.cap_plays.specs.Turns.{nth, on_approval, on_response, on_authorisation, on_handled};
+ghost use Rattle.cap_plays.specs.Turns.{nth, on_approval, on_authorisation, on_handled};
 ghost use Rattle.cap_plays.specs.Texts.{texts_in};
-ghost use Rattle.cap_terminal_lines.specs.Acts.{AddDone};
-ghost use Rattle.cap_terminal_lines.specs.Hears.{decision_in as decision_of, IsAnswerAlone, says_only, refusal_of, DecidedDone, HeardDone, DownDone};
+ghost use Rattle.cap_terminal_lines.specs.Hears.{decision_in as decision_of, IsAnswerAlone, says_only, refusal_of, on_answer, SaleDone, DecidedDone, HeardDone, DownDone};
 
 use crate::ends::{complete, decline, give_up};
 use crate::said::{Said, quiet};
@@ -23,7 +22,7 @@ fn settle<J: Journal<TermEntry>>(
     approved: Approved,
 ) -> Result<Said, LineFault>
     requires { IsLive (J.entries terminal.old) approved.n approved.amount approved.account }
-    ensures done { AddDone J.entries J.has_failed J.tells J.may_leave J.counts terminal.old terminal.new (on_approval walks_out approved.n approved.code).added (on_approval walks_out approved.n approved.code).outcome result }
+    ensures done { SaleDone J.Journal terminal.old terminal.new (on_approval walks_out approved.n approved.code) result }
     ensures works { OnOk result (J.has_failed terminal.new ≡ J.has_failed terminal.old) }
 {
     if walks_out {
@@ -42,7 +41,7 @@ fn decide<J: Journal<TermEntry>>(
 ) -> Result<Said, LineFault>
     requires live { IsLive (J.entries terminal.old) begun.n begun.amount begun.account }
     requires sale { begun.n ≡ answer.now.n }
-    ensures done { AddDone J.entries J.has_failed J.tells J.may_leave J.counts terminal.old terminal.new (on_response walks_out answer.now.n answer.now.response answer.now.code).added (on_response walks_out answer.now.n answer.now.response answer.now.code).outcome result }
+    ensures done { SaleDone J.Journal terminal.old terminal.new (on_answer walks_out answer.now) result }
     ensures works { OnOk result (J.has_failed terminal.new ≡ J.has_failed terminal.old) }
 {
     match terminal.authorise(begun, answer) {
@@ -61,7 +60,7 @@ fn on_decision<J: Journal<TermEntry>>(
     walks_out: bool,
     answer: &AuthResponse,
 ) -> Result<Said, LineFault>
-    ensures done { DecidedDone J.entries J.has_failed J.tells J.may_leave J.counts terminal.old terminal.new (λ l. on_authorisation walks_out l answer.now) result }
+    ensures done { DecidedDone J.Journal terminal.old terminal.new (λ l. on_authorisation walks_out l answer.now) result }
     ensures works { OnOk result (J.has_failed terminal.new ≡ J.has_failed terminal.old) }
 {
     match terminal.take_pending(answer.n) {
@@ -117,7 +116,7 @@ fn after_answer<J: Journal<TermEntry>>(
     walks_out: bool,
     handled: &Handled,
 ) -> Result<Said, LineFault>
-    ensures done { DecidedDone J.entries J.has_failed J.tells J.may_leave J.counts terminal.old terminal.new (λ l. on_handled walks_out l handled.now) result }
+    ensures done { DecidedDone J.Journal terminal.old terminal.new (λ l. on_handled walks_out l handled.now) result }
     ensures works { OnOk result (J.has_failed terminal.new ≡ J.has_failed terminal.old) }
     ensures says { IsAnswerAlone handled.now → result ≡ Ok (says_only (on_handled false [] handled.now).outcome) }
     ensures stays { IsAnswerAlone handled.now → terminal.new ≡ terminal.old }
@@ -154,7 +153,7 @@ pub(crate) fn hear<J: Journal<TermEntry>>(
     walks_out: bool,
     text: &[u8],
 ) -> Result<Said, LineFault>
-    ensures done { HeardDone J.entries J.has_failed J.tells J.may_leave J.counts terminal.old terminal.new walks_out text.now result }
+    ensures done { HeardDone J.Journal terminal.old terminal.new walks_out text.now result }
     ensures works { OnOk result (J.has_failed terminal.new ≡ J.has_failed terminal.old) }
 {
     match terminal.handle(text) {
@@ -185,7 +184,7 @@ pub(crate) fn down<J: Journal<TermEntry>>(
     answers: &[Vec<u8>],
     j: u64,
 ) -> Result<Said, LineFault>
-    ensures done { DownDone J.entries J.has_failed J.tells J.may_leave J.counts terminal.old terminal.new walks_out (texts_in answers.now) j result }
+    ensures done { DownDone J.Journal terminal.old terminal.new walks_out (texts_in answers.now) j result }
     ensures works { OnOk result (J.has_failed terminal.new ≡ J.has_failed terminal.old) }
 {
     texts_read_again();

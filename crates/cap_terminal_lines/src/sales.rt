@@ -1,13 +1,9 @@
 // Sales that a terminal begins and ends by itself.
-ghost use Rattle.std.specs.Prelude.{◌≡◌, nat_lt, count_by, if◌then◌else◌, OnOk};
-ghost use Rattle.cap_entries.specs.declared.terminal.TermEntry.TheVariants.{Cancelled, Closed, Voided};
-ghost use Rattle.cap_entries.specs.Entry.{is_any_begin, is_pending, max_of};
-ghost use Rattle.cap_entries.specs.Allowed.{allowed};
+ghost use Rattle.std.specs.Prelude.{◌≡◌, OnOk};
 ghost use Rattle.cap_terminal.specs.Live.{IsLive};
-ghost use Rattle.cap_schedule.specs.declared.outcome.Outcome.TheVariants as O;
-ghost use Rattle.cap_world.specs.World.{Gives_up, Cancels, Closes};
-ghost use Rattle.cap_plays.specs.Turns.{makes, says, adds, behind, begins, worked, offline_turn, next_sale, next_period, if_cancellable};
+ghost use Rattle.cap_plays.specs.Turns.{offline_turn};
 ghost use Rattle.cap_terminal_lines.specs.Acts.{TurnDone};
+ghost use Rattle.cap_terminal_lines.specs.Made.{begin_turn, sale_turn, void_turn, cancel_turn, close_turn};
 
 use crate::ends::{complete, void_begun};
 use crate::said::{Said, quiet};
@@ -25,7 +21,7 @@ pub(crate) fn begin<J: Journal<TermEntry>>(
     amount: Amount,
     account: Account,
 ) -> Result<Said, LineFault>
-    ensures done { TurnDone J.entries J.has_failed J.tells J.may_leave J.counts 4 terminal.old terminal.new (λ s. if nat_lt (count_by is_any_begin s.settled) (max_of s.settled) then makes (begins s.settled amount account) (O.Begun (next_sale s.settled)) else says (O.Limit (max_of s.settled))) result }
+    ensures done { TurnDone J.Journal 4 terminal.old terminal.new (λ s. begin_turn s amount account) result }
     ensures works { OnOk result (J.has_failed terminal.new ≡ J.has_failed terminal.old) }
 {
     match terminal.begin(amount, account) {
@@ -47,7 +43,7 @@ fn complete_offline<J: Journal<TermEntry>>(
     begun: Begun,
 ) -> Result<Said, LineFault>
     requires { IsLive (J.entries terminal.old) begun.n begun.amount begun.account }
-    ensures done { TurnDone J.entries J.has_failed J.tells J.may_leave J.counts 4 terminal.old terminal.new (λ s. offline_turn s begun.n) result }
+    ensures done { TurnDone J.Journal 4 terminal.old terminal.new (λ s. offline_turn s begun.n) result }
     ensures works { OnOk result (J.has_failed terminal.new ≡ J.has_failed terminal.old) }
 {
     match terminal.offline(begun) {
@@ -65,7 +61,7 @@ pub(crate) fn offline<J: Journal<TermEntry>>(
     terminal: &mut Terminal<J>,
     n: u64,
 ) -> Result<Said, LineFault>
-    ensures done { TurnDone J.entries J.has_failed J.tells J.may_leave J.counts 4 terminal.old terminal.new (λ s. offline_turn s n) result }
+    ensures done { TurnDone J.Journal 4 terminal.old terminal.new (λ s. offline_turn s n) result }
     ensures works { OnOk result (J.has_failed terminal.new ≡ J.has_failed terminal.old) }
 {
     match terminal.take_pending(n) {
@@ -80,7 +76,7 @@ pub(crate) fn sale<J: Journal<TermEntry>>(
     amount: Amount,
     account: Account,
 ) -> Result<Said, LineFault>
-    ensures done { TurnDone J.entries J.has_failed J.tells J.may_leave J.counts 8 terminal.old terminal.new (λ s. if nat_lt (count_by is_any_begin s.settled) (max_of s.settled) then behind (begins s.settled amount account) (offline_turn (worked s (begins s.settled amount account)) (next_sale s.settled)) else says (O.Limit (max_of s.settled))) result }
+    ensures done { TurnDone J.Journal 8 terminal.old terminal.new (λ s. sale_turn s amount account) result }
     ensures works { OnOk result (J.has_failed terminal.new ≡ J.has_failed terminal.old) }
 {
     match terminal.begin(amount, account) {
@@ -97,7 +93,7 @@ pub(crate) fn void<J: Journal<TermEntry>>(
     terminal: &mut Terminal<J>,
     n: u64,
 ) -> Result<Said, LineFault>
-    ensures done { TurnDone J.entries J.has_failed J.tells J.may_leave J.counts 4 terminal.old terminal.new (λ s. if is_pending s.settled n then makes (adds (Gives_up n) (Voided n)) (O.GivenUp n) else says (O.NotPending n)) result }
+    ensures done { TurnDone J.Journal 4 terminal.old terminal.new (λ s. void_turn s n) result }
     ensures works { OnOk result (J.has_failed terminal.new ≡ J.has_failed terminal.old) }
 {
     match terminal.take_pending(n) {
@@ -111,7 +107,7 @@ pub(crate) fn cancel<J: Journal<TermEntry>>(
     terminal: &mut Terminal<J>,
     n: u64,
 ) -> Result<Said, LineFault>
-    ensures done { TurnDone J.entries J.has_failed J.tells J.may_leave J.counts 4 terminal.old terminal.new (λ s. if_cancellable s.settled n (makes (adds (Cancels n) (Cancelled n)) (O.CancelledSale n))) result }
+    ensures done { TurnDone J.Journal 4 terminal.old terminal.new (λ s. cancel_turn s n) result }
     ensures works { OnOk result (J.has_failed terminal.new ≡ J.has_failed terminal.old) }
 {
     // its journal is a legal one
@@ -128,7 +124,7 @@ pub(crate) fn cancel<J: Journal<TermEntry>>(
 
 /// Closes the period that is open.
 pub(crate) fn close<J: Journal<TermEntry>>(terminal: &mut Terminal<J>) -> Result<Said, LineFault>
-    ensures done { TurnDone J.entries J.has_failed J.tells J.may_leave J.counts 4 terminal.old terminal.new (λ s. if allowed s.settled (Closed (next_period s.settled)) then makes (adds Closes (Closed (next_period s.settled))) (O.ClosedPeriod (next_period s.settled)) else says O.PeriodLimit) result }
+    ensures done { TurnDone J.Journal 4 terminal.old terminal.new close_turn result }
     ensures works { OnOk result (J.has_failed terminal.new ≡ J.has_failed terminal.old) }
 {
     // its journal is a legal one

@@ -1,18 +1,10 @@
 // Messages that a terminal sends.
-ghost use Rattle.std.specs.Prelude.{◌≡◌, ◌≤◌, ◌<◌, ◌+◌, ◌^◌, nat_lt, length, take, true, None, if◌then◌else◌};
-ghost use Rattle.cap_sale_msgs.specs.declared.body.SaleBody.TheVariants.{AuthRequest, CancelRequest};
-ghost use Rattle.cap_batch_msgs.specs.declared.body.BatchBody.TheVariants.{Batch, Diagnostic};
-ghost use Rattle.cap_mgmt_msgs.specs.declared.body.MgmtBody.TheVariants.{Status};
-ghost use Rattle.cap_msgs.specs.declared.message.Body.TheVariants.{Sale as Of_sale, Batch as Of_batch, Management as Of_management};
-ghost use Rattle.cap_entries.specs.Entry.{is_pending, amount_of, account_of};
-ghost use Rattle.cap_entries.specs.Acked.{acked};
-ghost use Rattle.cap_entries.specs.InForce.{version_in_force, staged_from, staged_version, staged_count};
-ghost use Rattle.cap_plain.specs.Queue.{queue};
+ghost use Rattle.std.specs.Prelude.{◌≡◌, ◌≤◌, ◌<◌, ◌+◌, ◌^◌, true};
 ghost use Rattle.cap_terminal_answers.specs.Takes.{queue_head};
-ghost use Rattle.cap_terminal_answers.specs.Sends.{Batch_of, Ask, Ask_cancel, Diagnose, Report_status, may_be_wanted};
-ghost use Rattle.cap_schedule.specs.declared.outcome.Outcome.TheVariants as O;
-ghost use Rattle.cap_plays.specs.Turns.{says, sends, sends_head, if_cancellable};
+ghost use Rattle.cap_terminal_answers.specs.Sends.{may_be_wanted};
+ghost use Rattle.cap_plays.specs.Turns.{sends_head};
 ghost use Rattle.cap_terminal_lines.specs.Acts.{SendDone};
+ghost use Rattle.cap_terminal_lines.specs.Made.{batch_turn, ask_turn, ask_cancel_turn, diagnose_turn, status_turn};
 ghost use Rattle.cap_terminal_lines.specs.Sent.{SendsText};
 
 use crate::digits::message_fits;
@@ -53,7 +45,7 @@ pub(crate) fn push<J: Journal<TermEntry>>(
 ) -> Result<Said, LineFault>
     requires moment { moment ≤ 253402300799 }
     requires sent { sent + 1 < 2 ^ 64 }
-    ensures { SendDone J.entries J.has_failed J.tells J.may_leave J.counts terminal.now moment sent (λ s created. sends_head s moment created (queue_head s.settled)) result }
+    ensures { SendDone J.Journal terminal.now moment sent (λ s created. sends_head s moment created (queue_head s.settled)) result }
 {
     date_of(moment);
     match terminal.head(moment, 0) {
@@ -74,7 +66,7 @@ pub(crate) fn batch<J: Journal<TermEntry>>(
     requires high { limit ≤ 100 }
     requires moment { moment ≤ 253402300799 }
     requires sent { sent + 1 < 2 ^ 64 }
-    ensures { SendDone J.entries J.has_failed J.tells J.may_leave J.counts terminal.now moment sent (λ s created. if nat_lt 0 (length (queue s.settled)) then sends s (Batch_of limit 0) moment created (acked s.settled + 1) (Of_batch (Batch (take limit (queue s.settled)))) else says O.NothingQueued) result }
+    ensures { SendDone J.Journal terminal.now moment sent (λ s created. batch_turn s limit moment created) result }
 {
     date_of(moment);
     match terminal.batch(limit as usize, moment, 0) {
@@ -94,7 +86,7 @@ pub(crate) fn ask<J: Journal<TermEntry>>(
 ) -> Result<Said, LineFault>
     requires moment { moment ≤ 253402300799 }
     requires sent { sent + 1 < 2 ^ 64 }
-    ensures { SendDone J.entries J.has_failed J.tells J.may_leave J.counts terminal.now moment sent (λ s created. if is_pending s.settled n then sends s (Ask n) moment created n (Of_sale (AuthRequest (amount_of s.settled n) (account_of s.settled n))) else says (O.NotPending n)) result }
+    ensures { SendDone J.Journal terminal.now moment sent (λ s created. ask_turn s n moment created) result }
 {
     date_of(moment);
     match terminal.take_pending(n) {
@@ -117,7 +109,7 @@ pub(crate) fn ask_cancel<J: Journal<TermEntry>>(
 ) -> Result<Said, LineFault>
     requires moment { moment ≤ 253402300799 }
     requires sent { sent + 1 < 2 ^ 64 }
-    ensures { SendDone J.entries J.has_failed J.tells J.may_leave J.counts terminal.now moment sent (λ s created. if_cancellable s.settled n (sends s (Ask_cancel n) moment created n (Of_sale (CancelRequest (amount_of s.settled n))))) result }
+    ensures { SendDone J.Journal terminal.now moment sent (λ s created. ask_cancel_turn s n moment created) result }
 {
     date_of(moment);
     // its journal is a legal one
@@ -139,7 +131,7 @@ pub(crate) fn diagnose<J: Journal<TermEntry>>(
 ) -> Result<Said, LineFault>
     requires moment { moment ≤ 253402300799 }
     requires sent { sent + 1 < 2 ^ 64 }
-    ensures { SendDone J.entries J.has_failed J.tells J.may_leave J.counts terminal.now moment sent (λ s created. sends s Diagnose moment created 0 (Of_batch (Diagnostic (acked s.settled)))) result }
+    ensures { SendDone J.Journal terminal.now moment sent (λ s created. diagnose_turn s moment created) result }
 {
     send(alloc, &terminal.diagnose(moment), sent)
 }
@@ -155,7 +147,7 @@ pub(crate) fn status<J: Journal<TermEntry>>(
     requires wanted { may_be_wanted wanted ≡ true }
     requires moment { moment ≤ 253402300799 }
     requires sent { sent + 1 < 2 ^ 64 }
-    ensures { SendDone J.entries J.has_failed J.tells J.may_leave J.counts terminal.now moment sent (λ s created. sends s (Report_status wanted) moment created 0 (Of_management (Status wanted (version_in_force s.settled) (staged_version (staged_from None s.settled)) (staged_count (staged_from None s.settled))))) result }
+    ensures { SendDone J.Journal terminal.now moment sent (λ s created. status_turn s wanted moment created) result }
 {
     send(alloc, &terminal.status_report(wanted, moment), sent)
 }

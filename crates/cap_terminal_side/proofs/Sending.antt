@@ -10,7 +10,7 @@ use Rattle.cap_entries.specs.declared.terminal.TermEntry.TheVariants.{Cancelled,
 use Rattle.cap_entries.specs.Entry.{is_any_begin, is_pending, amount_of, max_of}
 use Rattle.cap_entries.specs.Allowed.{allowed}
 use Rattle.cap_entries.specs.Floor.{floor}
-use Rattle.cap_host_ledger.specs.Ledger.{calls_for}
+use Rattle.cap_ledger.specs.Adding.{calls_for}
 use Rattle.cap_plain.specs.Queue.{queue}
 use Rattle.cap_terminal_answers.specs.Takes.{queue_head}
 use Rattle.cap_schedule.specs.declared.outcome.Outcome.{Outcome}

@@ -1,10 +1,10 @@
 -- What becomes of a terminal that did a line behind a prefix, from what the line says and what settling it says.
 use Rattle.std.proofs.Common.{◌≡◌, ℕ, ◌+◌, ◌^◌, ◌<◌, ◌≤◌, Bool, true, false, List, [], ◌∷◌, ◌++◌, length, take, Vec, Global, Option, Some, None, refl, sym, ◌∙◌, ap, subst, inl, append-nil, arith}
-use Rattle.std.specs.Prelude.{Result, Ok, Err, IfOk, OnOk, IsErrOf, option_to_list, if◌then◌else◌}
+use Rattle.std.specs.Prelude.{Result, Ok, Err, IsTrue, IfOk, OnOk, IsErrOf, option_to_list, if◌then◌else◌}
 use Rattle.std.proofs.Math.Seq.{take-nil}
-use Rattle.cap_disk.specs.Disk.{Counts}
 use Rattle.cap_disk.specs.MemoryDisk.{told_of}
 use Rattle.cap_disk.specs.declared.memory.MemoryDisk.{MemoryDisk}
+use Rattle.cap_journal.specs.declared.journal.Journal.{Ghosts}
 use Rattle.cap_journal.specs.File.{Has}
 use Rattle.cap_msgs.specs.declared.message.Message.{Message}
 use Rattle.cap_entries.specs.declared.terminal.TermEntry.{TermEntry}
@@ -73,36 +73,38 @@ without_doubt images entries settled tried is_on doubt stands = record {
       (0, inl refl, subst (Has term_reading image) (ap (λ l. settled ++ l) (ap (take kept) none ∙ take-nil kept)) held);
 }
 
-module _ {T : Type 0} (entries : T → List TermEntry) (disk : T → MemoryDisk) (has_failed : T → Bool) where
-  abbrev pub tells : T → Bool
-  tells t = true
+-- a terminal is seen as a journal that tells the contents of a disk in memory
+pub record Sees {T : Type 0} (g : Ghosts T TermEntry) (disk : T → MemoryDisk) : Type 0 where
+  pub told : (t : T) → IsTrue (g.tells t)
+  pub left : (t : T) (image : List ℕ) → images_of (disk t) image → g.may_leave t image
+  pub leaves : (t : T) (image : List ℕ) → g.may_leave t image → images_of (disk t) image
+  pub counts : (t : T) → g.counts t ≡ told_of (disk t)
 
-  abbrev pub leaves : T → List ℕ → Type 0
-  leaves t = images_of (disk t)
-
-  abbrev pub counts : T → Option Counts
-  counts t = told_of (disk t)
-
+module _ {T : Type 0} (g : Ghosts T TermEntry) (disk : T → MemoryDisk) (sees : Sees g disk) where
   abbrev StandsAt : Power T → List TermEntry → List TermEntry → Bool → Doubt → Type 0
-  StandsAt power settled tried is_on doubt = Stands (Has term_reading) entries disk power settled tried is_on doubt
+  StandsAt power settled tried is_on doubt = Stands (Has term_reading) g.entries disk power settled tried is_on doubt
 
   abbrev CorrespondsAt : T → (on : Bool) → List TermEntry → List TermEntry → List TermEntry → Bool → Doubt → Type 0
   CorrespondsAt t on list settled tried is_on doubt = EndCorresponds (Has term_reading) (images_of (disk t)) on list settled tried is_on doubt
 
+  -- the images of the disk are those that the journal may leave
+  seen_end : (t : T) (on : Bool) (list settled tried : List TermEntry) (is_on : Bool) (doubt : Doubt) → EndCorresponds (Has term_reading) (g.may_leave t) on list settled tried is_on doubt → CorrespondsAt t on list settled tried is_on doubt
+  seen_end t on list settled tried is_on doubt stands = end_fewer (Has term_reading) (g.may_leave t) (images_of (disk t)) on list list settled tried is_on doubt stands (λ is. refl) (sees.left t)
+
   -- a terminal on whose disk the prefix was armed is ready for a line
   pub ready_for : (prefix : Option Prefix) (most : ℕ) (old new : T) (s : TerminalState) (heard : List Message) (places : List ℕ) (doubt : Doubt) (counting : Counting prefix most (told_of (disk new)))
-      → CountsFromOne prefix → entries new ≡ entries old → has_failed new ≡ false → NoOthers (disk old) (disk new) → most + 8 < 2 ^ 64
-      → CorrespondsAt old true (entries old) s.settled s.tried s.on doubt → AreCounted s.answers places heard
-      → IsReadyFor entries has_failed tells leaves counts 8 new heard s places (armed_of prefix) (record { calls = counting.calls; stop = stop_behind prefix counting.calls })
+      → CountsFromOne prefix → g.entries new ≡ g.entries old → g.has_failed new ≡ false → NoOthers (disk old) (disk new) → most + 8 < 2 ^ 64
+      → CorrespondsAt old true (g.entries old) s.settled s.tried s.on doubt → AreCounted s.answers places heard
+      → IsReadyFor g 8 new heard s places (armed_of prefix) (record { calls = counting.calls; stop = stop_behind prefix counting.calls })
   ready_for prefix most old new s heard places doubt counting one same works fewer few stands counted = record {
-    told = refl;
+    told = sees.told new;
     works = works;
-    counts_are = counting.is;
+    counts_are = sees.counts new ∙ counting.is;
     few = let le : counting.calls ≤ most = counting.few in omega (arith, le, few);
     is_armed = armed_is prefix counting.calls one;
     stands = record {
-      end = without_doubt (images_of (disk new)) (entries new) s.settled s.tried s.on doubt
-          (end_fewer (Has term_reading) (images_of (disk old)) (images_of (disk new)) true (entries old) (entries new) s.settled s.tried s.on doubt stands (λ on. same) fewer);
+      end = without_doubt (g.may_leave new) (g.entries new) s.settled s.tried s.on doubt
+          (end_fewer (Has term_reading) (images_of (disk old)) (g.may_leave new) true (g.entries old) (g.entries new) s.settled s.tried s.on doubt stands (λ on. same) (λ image left. fewer image (sees.leaves new image left)));
       sent_is = refl;
       answers_are = counted;
     };
@@ -110,18 +112,18 @@ module _ {T : Type 0} (entries : T → List TermEntry) (disk : T → MemoryDisk)
 
   -- what settling says of the power, by what the line said
   pub record Settles (prefix : Option Prefix) (t : T) (said : Result Outcome LineFault) (after : Settled T) : Type 0 where
-    pub stays : cuts_after prefix ≡ false → (settled tried : List TermEntry) (is_on : Bool) (doubt : Doubt) → CorrespondsAt t true (entries t) settled tried is_on doubt
+    pub stays : cuts_after prefix ≡ false → (settled tried : List TermEntry) (is_on : Bool) (doubt : Doubt) → CorrespondsAt t true (g.entries t) settled tried is_on doubt
         → OnOk said (StandsAt after.power settled tried is_on doubt)
     pub outcome : cuts_after prefix ≡ false → IfOk said (λ outcome. after.outcome ≡ outcome)
-    pub cut : cuts_after prefix ≡ true → (settled added : List TermEntry) → entries t ≡ settled ++ added → OnOk said (StandsAt after.power settled added false (no_doubt (length added)))
+    pub cut : cuts_after prefix ≡ true → (settled added : List TermEntry) → g.entries t ≡ settled ++ added → OnOk said (StandsAt after.power settled added false (no_doubt (length added)))
     pub was_cut : cuts_after prefix ≡ true → OnOk said (after.outcome ≡ WasCut)
-    pub ready : (calls : ℕ) (stop : Option ℕ) → told_of (disk t) ≡ Some (record { calls = calls; stop = stop }) → (arms prefix ≡ false → stop ≡ None) → IsReady has_failed disk calls after.power
+    pub ready : (calls : ℕ) (stop : Option ℕ) → told_of (disk t) ≡ Some (record { calls = calls; stop = stop }) → (arms prefix ≡ false → stop ≡ None) → IsReady g.has_failed disk calls after.power
     pub broken : (list settled tried : List TermEntry) (is_on : Bool) (doubt : Doubt) → CorrespondsAt t false list settled tried is_on doubt → IsErrOf said Disk → StandsAt after.power settled tried is_on doubt
     pub fault : IsErrOf said Disk → after.outcome ≡ outcome_of_fault (cuts prefix)
     pub no_memory : IsErrOf said Memory → ⊥
 
   -- an end that is off counts no calls
-  off_ready : (most : ℕ) (power : Power T) (settled tried : List TermEntry) (is_on : Bool) (doubt : Doubt) → is_on ≡ false → StandsAt power settled tried is_on doubt → IsReady has_failed disk most power
+  off_ready : (most : ℕ) (power : Power T) (settled tried : List TermEntry) (is_on : Bool) (doubt : Doubt) → is_on ≡ false → StandsAt power settled tried is_on doubt → IsReady g.has_failed disk most power
   off_ready most (On end) settled tried is_on doubt off stands = on_is_not_off is_on stands.on_is off
   off_ready most (Off left) settled tried is_on doubt off stands = tt
   off_ready most Lent settled tried is_on doubt off stands = tt
@@ -129,27 +131,27 @@ module _ {T : Type 0} (entries : T → List TermEntry) (disk : T → MemoryDisk)
   -- the line was done to its end, and the power outlives it
   done_meets : (prefix : Option Prefix) (s : TerminalState) (turn : Turn) (places : List ℕ) (heard : List Message) (most calls : ℕ) (t : T) (said : Said) (after : Settled T) (sent new answers : Vec (Vec ℕ Global) Global)
       → cuts_after prefix ≡ false → calls ≤ most
-      → IsDone entries has_failed tells leaves counts 8 t heard s places (armed_of prefix) (ended_of prefix) (record { calls = calls; stop = stop_behind prefix calls }) turn said
+      → IsDone g 8 t heard s places (armed_of prefix) (ended_of prefix) (record { calls = calls; stop = stop_behind prefix calls }) turn said
       → Settles prefix t (Ok said.outcome) after → Kept sent s.sent → Kept answers heard → new.items ≡ sent.items ++ kept_of prefix said.sent
-      → SideMeets entries disk has_failed (most + 8) after.power new answers places after.outcome (end_fate prefix s turn)
+      → SideMeets g.entries disk g.has_failed (most + 8) after.power new answers places after.outcome (end_fate prefix s turn)
   done_meets prefix s turn places heard most calls t said after sent new answers uncut le done settles sent_are answers_are kept =
       let ended = ended_of prefix in
       let fate = end_armed (armed_of prefix) s turn ended in
       let past = done.after in
-      let end : CorrespondsAt t true (entries t) fate.state.settled fate.state.tried fate.state.on fate.doubt = done.stands.end in
+      let end : CorrespondsAt t true (g.entries t) fate.state.settled fate.state.tried fate.state.on fate.doubt = seen_end t true (g.entries t) fate.state.settled fate.state.tried fate.state.on fate.doubt done.stands.end in
       let stop : past.stop ≡ stop_behind prefix calls = done.goes_on.stop in
       let few : past.calls ≤ calls + 8 = done.goes_on.few in
-      let ready = settles.ready past.calls past.stop done.counts_are (λ not_armed. stop ∙ unarmed_stop prefix calls not_armed) in
+      let ready = settles.ready past.calls past.stop (sym (sees.counts t) ∙ done.counts_are) (λ not_armed. stop ∙ unarmed_stop prefix calls not_armed) in
       let grown : new.items ≡ sent.items ++ option_to_list said.sent = kept ∙ ap (λ l. sent.items ++ l) (kept_all prefix said.sent uncut) in
       let more : AreTexts (texts_in (sent.items ++ option_to_list said.sent)) (s.sent ++ sent_in turn.works) =
       kept_behind sent.items (option_to_list said.sent) s.sent (sent_in turn.works) sent_are (sent_texts said.sent (sent_in turn.works) done.sent_is) in
       let all : AreTexts (texts_in new.items) fate.state.sent =
       subst (λ (l : List (Vec ℕ Global)). AreTexts (texts_in l) fate.state.sent) (sym grown)
       (subst (λ (l : List Message). AreTexts (texts_in (sent.items ++ option_to_list said.sent)) l) (sym (done_sent (armed_of prefix) s turn ended (sym end.on_is))) more) in
-      subst (λ (f : EndFate). SideMeets entries disk has_failed (most + 8) after.power new answers places after.outcome f) (sym (fate_is_armed prefix s turn uncut)) (
+      subst (λ (f : EndFate). SideMeets g.entries disk g.has_failed (most + 8) after.power new answers places after.outcome f) (sym (fate_is_armed prefix s turn uncut)) (
         record {
           stands = settles.stays uncut fate.state.settled fate.state.tried fate.state.on fate.doubt end;
-          ready = more_ready entries disk has_failed past.calls (most + 8) after.power (omega (arith, few, le)) ready;
+          ready = more_ready g.entries disk g.has_failed past.calls (most + 8) after.power (omega (arith, few, le)) ready;
           sent_are = all;
           heard = heard;
           counted = done.stands.answers_are;
@@ -161,20 +163,20 @@ module _ {T : Type 0} (entries : T → List TermEntry) (disk : T → MemoryDisk)
   -- the armed call ended it
   broken_meets : (prefix : Option Prefix) (s : TerminalState) (turn : Turn) (places : List ℕ) (heard : List Message) (most : ℕ) (t : T) (after : Settled T) (sent new answers : Vec (Vec ℕ Global) Global)
       → cuts_after prefix ≡ false → SendsLast turn.works
-      → IsBroken entries has_failed tells leaves counts t heard s places (armed_of prefix) (ended_of prefix) turn
+      → IsBroken g t heard s places (armed_of prefix) (ended_of prefix) turn
       → Settles prefix t (Err Disk) after → Kept sent s.sent → Kept answers heard → new.items ≡ sent.items ++ kept_of prefix None
-      → SideMeets entries disk has_failed (most + 8) after.power new answers places after.outcome (end_fate prefix s turn)
+      → SideMeets g.entries disk g.has_failed (most + 8) after.power new answers places after.outcome (end_fate prefix s turn)
   broken_meets prefix s turn places heard most t after sent new answers uncut last broken settles sent_are answers_are kept =
       let ended = ended_of prefix in
       let fate = end_armed (armed_of prefix) s turn ended in
-      let end : CorrespondsAt t false (entries t) fate.state.settled fate.state.tried fate.state.on fate.doubt = broken.stands.end in
+      let end : CorrespondsAt t false (g.entries t) fate.state.settled fate.state.tried fate.state.on fate.doubt = seen_end t false (g.entries t) fate.state.settled fate.state.tried fate.state.on fate.doubt broken.stands.end in
       let off : fate.state.on ≡ false = sym end.on_is in
-      let stands : StandsAt after.power fate.state.settled fate.state.tried fate.state.on fate.doubt = settles.broken (entries t) fate.state.settled fate.state.tried fate.state.on fate.doubt end refl in
+      let stands : StandsAt after.power fate.state.settled fate.state.tried fate.state.on fate.doubt = settles.broken (g.entries t) fate.state.settled fate.state.tried fate.state.on fate.doubt end refl in
       let same : new.items ≡ sent.items = kept ∙ (ap (λ l. sent.items ++ l) (kept_all prefix None uncut) ∙ append-nil sent.items) in
       let all : AreTexts (texts_in new.items) fate.state.sent =
       subst (λ (l : List (Vec ℕ Global)). AreTexts (texts_in l) fate.state.sent) (sym same)
       (subst (λ (l : List Message). AreTexts (texts_in sent.items) l) (sym (broken_sent (armed_of prefix) s turn ended broken.some last off)) sent_are) in
-      subst (λ (f : EndFate). SideMeets entries disk has_failed (most + 8) after.power new answers places after.outcome f) (sym (fate_is_armed prefix s turn uncut)) (
+      subst (λ (f : EndFate). SideMeets g.entries disk g.has_failed (most + 8) after.power new answers places after.outcome f) (sym (fate_is_armed prefix s turn uncut)) (
         record {
           stands = stands;
           ready = off_ready (most + 8) after.power fate.state.settled fate.state.tried fate.state.on fate.doubt off stands;
@@ -188,9 +190,9 @@ module _ {T : Type 0} (entries : T → List TermEntry) (disk : T → MemoryDisk)
 
   -- the power goes after all of it
   cut_meets : (s : TerminalState) (turn : Turn) (places : List ℕ) (heard : List Message) (most : ℕ) (t : T) (said : Said) (after : Settled T) (sent new answers : Vec (Vec ℕ Global) Global)
-      → SendsLast turn.works → entries t ≡ (end_whole s turn.works turn.outcome).state.settled → AreCounted s.answers places heard
+      → SendsLast turn.works → g.entries t ≡ (end_whole s turn.works turn.outcome).state.settled → AreCounted s.answers places heard
       → Settles (Some CutAfter) t (Ok said.outcome) after → Kept sent s.sent → Kept answers heard → new.items ≡ sent.items ++ []
-      → SideMeets entries disk has_failed (most + 8) after.power new answers places after.outcome (end_cut_after s turn.works)
+      → SideMeets g.entries disk g.has_failed (most + 8) after.power new answers places after.outcome (end_cut_after s turn.works)
   cut_meets s turn places heard most t said after sent new answers last is counted settles sent_are answers_are kept =
       let fate = end_cut_after s turn.works in
       let after_last : CutAfterLast s turn.works turn.outcome fate = cut_after_last s turn.works turn.outcome last in
@@ -217,7 +219,7 @@ module _ {T : Type 0} (entries : T → List TermEntry) (disk : T → MemoryDisk)
   pub record Acted (prefix : Option Prefix) (s : TerminalState) (turn : Turn) (places : List ℕ) (heard : List Message) (most calls : ℕ) (t : T) (said : Result Said LineFault) (after : Settled T) (sent new answers : Vec (Vec ℕ Global) Global) : Type 0 where
     pub le : calls ≤ most
     pub last : SendsLast turn.works
-    pub line : LineDone entries has_failed tells leaves counts 8 t heard s places (armed_of prefix) (ended_of prefix) (record { calls = calls; stop = stop_behind prefix calls }) turn said
+    pub line : LineDone g 8 t heard s places (armed_of prefix) (ended_of prefix) (record { calls = calls; stop = stop_behind prefix calls }) turn said
     pub settles : Settles prefix t (outcome_in said) after
     pub counted : AreCounted s.answers places heard
     pub sent_are : Kept sent s.sent
@@ -226,7 +228,7 @@ module _ {T : Type 0} (entries : T → List TermEntry) (disk : T → MemoryDisk)
 
   uncut_meets : (prefix : Option Prefix) (s : TerminalState) (turn : Turn) (places : List ℕ) (heard : List Message) (most calls : ℕ) (t : T) (said : Result Said LineFault) (after : Settled T) (sent new answers : Vec (Vec ℕ Global) Global)
       → cuts_after prefix ≡ false → Acted prefix s turn places heard most calls t said after sent new answers
-      → SideMeets entries disk has_failed (most + 8) after.power new answers places after.outcome (end_fate prefix s turn)
+      → SideMeets g.entries disk g.has_failed (most + 8) after.power new answers places after.outcome (end_fate prefix s turn)
   uncut_meets prefix s turn places heard most calls t (Ok said) after sent new answers uncut acted =
       done_meets prefix s turn places heard most calls t said after sent new answers uncut acted.le acted.line acted.settles acted.sent_are acted.answers_are acted.kept
   uncut_meets prefix s turn places heard most calls t (Err Disk) after sent new answers uncut acted =
@@ -235,7 +237,7 @@ module _ {T : Type 0} (entries : T → List TermEntry) (disk : T → MemoryDisk)
 
   after_meets : (s : TerminalState) (turn : Turn) (places : List ℕ) (heard : List Message) (most calls : ℕ) (t : T) (said : Result Said LineFault) (after : Settled T) (sent new answers : Vec (Vec ℕ Global) Global)
       → Acted (Some CutAfter) s turn places heard most calls t said after sent new answers
-      → SideMeets entries disk has_failed (most + 8) after.power new answers places after.outcome (end_cut_after s turn.works)
+      → SideMeets g.entries disk g.has_failed (most + 8) after.power new answers places after.outcome (end_cut_after s turn.works)
   after_meets s turn places heard most calls t (Ok said) after sent new answers acted =
       cut_meets s turn places heard most t said after sent new answers acted.last (acted.line.stands.end.entries_are refl) acted.counted acted.settles acted.sent_are acted.answers_are acted.kept
   after_meets s turn places heard most calls t (Err Disk) after sent new answers acted = on_is_not_off true refl (sym acted.line.some)
@@ -244,7 +246,7 @@ module _ {T : Type 0} (entries : T → List TermEntry) (disk : T → MemoryDisk)
   -- it stands to its fate
   pub meets : (prefix : Option Prefix) (s : TerminalState) (turn : Turn) (places : List ℕ) (heard : List Message) (most calls : ℕ) (t : T) (said : Result Said LineFault) (after : Settled T) (sent new answers : Vec (Vec ℕ Global) Global)
       → Acted prefix s turn places heard most calls t said after sent new answers
-      → SideMeets entries disk has_failed (most + 8) after.power new answers places after.outcome (end_fate prefix s turn)
+      → SideMeets g.entries disk g.has_failed (most + 8) after.power new answers places after.outcome (end_fate prefix s turn)
   meets None s turn places heard most calls t said after sent new answers acted = uncut_meets None s turn places heard most calls t said after sent new answers refl acted
   meets (Some (Cut call fill)) s turn places heard most calls t said after sent new answers acted = uncut_meets (Some (Cut call fill)) s turn places heard most calls t said after sent new answers refl acted
   meets (Some (Fail call fill)) s turn places heard most calls t said after sent new answers acted = uncut_meets (Some (Fail call fill)) s turn places heard most calls t said after sent new answers refl acted

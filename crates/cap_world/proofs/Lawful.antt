@@ -152,7 +152,7 @@ decision_taken entries message given e =
     let d = cond_both (is_for_us entries message) _ _ P (λ _. reply_decided entries message.header.exchange (reply_of message.body) given) (λ _. λ h. absurd (let no' : ⊥ = cc in no')) e in
     record { added = d.added; number = d.number_is; reply = d.reply_is }
 
-decided_legal : (entries : List TermEntry) (message : Message) (decision : Decision) (decided : List TermEntry) → SetUp entries → Decides entries (takes entries (Read message)).answer decision decided → all_allowed entries ((takes entries (Read message)).added ++ decided) ≡ true
+pub decided_legal : (entries : List TermEntry) (message : Message) (decision : Decision) (decided : List TermEntry) → SetUp entries → Decides entries (takes entries (Read message)).answer decision decided → all_allowed entries ((takes entries (Read message)).added ++ decided) ≡ true
 decided_legal entries message Leave decided u is = rw (is, append-nil) (takes_legal entries message u)
 decided_legal entries message Complete decided u (given, e, a, p, is) =
     rw ((decision_taken entries message given e).added, is) (and_from _ _ (allowed_from entries (Completed given.n given.code) u p) refl)

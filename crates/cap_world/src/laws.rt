@@ -5,7 +5,7 @@ ghost use Rattle.cap_world.specs.Agreement.{EveryRunAgrees};
 ghost use Rattle.cap_world.specs.Accepted.{EveryAdviceIsAccepted, EveryAnswerIsExpected};
 ghost use Rattle.cap_world.specs.Approved.{EveryCompletionIsApproved};
 ghost use Rattle.cap_world.specs.SetsInForce.{EverySetIsPublished, NoSetGoesBack};
-ghost use Rattle.cap_world.specs.LegalJournals.{EveryTerminalJournalIsLegal, EveryHostJournalIsLegal};
+ghost use Rattle.cap_world.specs.LegalJournals.{EveryTerminalJournalIsLegal, EveryHostJournalIsLegal, EveryTaskStaysLegal};
 ghost use Rattle.cap_world.specs.Node.{MergedBytesAreARun};
 ghost use Rattle.cap_world.specs.Settled.{EveryRunCanSettle};
 ghost use Rattle.cap_world.specs.Worked.{FirstSaleIsARun, InterruptedSaleIsARun, SettledSaleIsARun};
@@ -59,6 +59,11 @@ pub fn every_terminal_journal_is_legal()
 /// Whatever a power cut may have left of the host's journal is legal.
 pub fn every_host_journal_is_legal()
     ensures { EveryHostJournalIsLegal }
+{}
+
+/// Whatever an interrupted call of a terminal tried to add, each front of it leaves a legal journal legal.
+pub fn every_task_stays_legal()
+    ensures { EveryTaskStaysLegal }
 {}
 
 /// The work of the ends on what a network brings, where each message was sent by its sender or is foreign, merged into one list, leads

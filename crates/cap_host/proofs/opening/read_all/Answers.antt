@@ -6,8 +6,8 @@ use Rattle.cap_entries.specs.HostAllowed.{host_allowed}
 use Rattle.cap_entries.specs.FirstLaws.{host_refused-take, legal_host-take}
 use Rattle.cap_entries.specs.HostSummary.{host_summary}
 use Rattle.cap_answering.specs.declared.fault.HostFault.{HostFault}
-use Rattle.cap_host_ledger.specs.Ledger.{entries_in, OnlyReads}
-use Rattle.cap_host_ledger.specs.Laws.{reads_then_reads, reads_lack}
+use Rattle.cap_ledger.specs.Ledger.{entries_in, OnlyReads}
+use Rattle.cap_ledger.specs.Laws.{reads_then_reads, reads_lack}
 use Rattle.cap_host.specs.Host.{ending}
 use Rattle.cap_host.specs.Tables.{TablesTie}
 use Rattle.cap_host.proofs.Composed.{lacks_fault}
@@ -44,7 +44,7 @@ loop-i-preserved g c =
       rest = host_refused-take entries i entry within fine' ∙ inv.rest;
       readable = reads.stays.is_readable ∙ inv.readable;
       same = reads.entries ∙ inv.same;
-      reads = reads_then_reads c.args.ledger.now c.loop-i.ledger c.entry_at.new.ledger {S = Unit {0}} {T = Unit {0}} tt (ending None) inv.reads reads;
+      reads = reads_then_reads c.args.ledger.now c.loop-i.ledger c.entry_at.new.ledger {V = Unit {0}} {T = Unit {0}} tt (ending None) inv.reads reads;
     }
 
 pub returns-in_err-add-clause-reads : goal.returns-in_err-add-clause-reads
@@ -52,13 +52,13 @@ returns-in_err-add-clause-reads g c =
     let old = c.args.ledger.now in
     let new = c.entry_at.new.ledger in
     let lack = c.from_residual-in_err-add in
-    let read = reads_then_reads old c.loop-i.ledger new {S = Unit {0}} {T = Unit {0}} tt (ending None) c.loop-i.invariant.reads c.in_ok-entry.ensures.reads in
-    subst (λ (f : Option HostFault). OnlyReads old new (ending f)) (sym (lacks_fault lack.result lack.ensures.1)) (reads_lack old new {S = Unit {0}} {T = Unit {0}} tt read)
+    let read = reads_then_reads old c.loop-i.ledger new {V = Unit {0}} {T = Unit {0}} tt (ending None) c.loop-i.invariant.reads c.in_ok-entry.ensures.reads in
+    subst (λ (f : Option HostFault). OnlyReads old new (ending f)) (sym (lacks_fault lack.result lack.ensures.1)) (reads_lack old new {V = Unit {0}} {T = Unit {0}} tt read)
 
 pub returns-in_err-take-clause-reads : goal.returns-in_err-take-clause-reads
 returns-in_err-take-clause-reads g c =
     let old = c.args.ledger.now in
     let new = c.entry_at.new.ledger in
     let lack = c.from_residual-in_err-take in
-    let read = reads_then_reads old c.loop-i.ledger new {S = Unit {0}} {T = Unit {0}} tt (ending None) c.loop-i.invariant.reads c.in_ok-entry.ensures.reads in
-    subst (λ (f : Option HostFault). OnlyReads old new (ending f)) (sym (lacks_fault lack.result lack.ensures.1)) (reads_lack old new {S = Unit {0}} {T = Unit {0}} tt read)
+    let read = reads_then_reads old c.loop-i.ledger new {V = Unit {0}} {T = Unit {0}} tt (ending None) c.loop-i.invariant.reads c.in_ok-entry.ensures.reads in
+    subst (λ (f : Option HostFault). OnlyReads old new (ending f)) (sym (lacks_fault lack.result lack.ensures.1)) (reads_lack old new {V = Unit {0}} {T = Unit {0}} tt read)

@@ -3,7 +3,7 @@ use Rattle.std.specs.Prelude.{IsTrue}
 use Rattle.cap_entries.specs.HostAllowed.{all_host_allowed}
 use Rattle.cap_entries.specs.FirstNotAllowed.{first_host_refused}
 use Rattle.cap_entries.specs.HostSummary.{host_summary}
-use Rattle.cap_host_ledger.specs.Ledger.{entries_in, is_readable, OnlyReads}
+use Rattle.cap_ledger.specs.Ledger.{entries_in, is_readable, OnlyReads}
 use Rattle.cap_host.specs.Host.{ending}
 use Rattle.cap_host.specs.Tables.{TablesTie}
 use Rattle.cap_host.proofs.opening.read_all.Given as goal

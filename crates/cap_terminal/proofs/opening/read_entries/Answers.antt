@@ -1,6 +1,7 @@
-use Rattle.std.proofs.Common.{◌≡◌, ◌+◌, ◌≤◌, ◌<◌, Bool, List, Option, Some, true, false, take, drop, get_or, length, refl, sym, ◌∙◌, ap, subst, arith}
+use Rattle.std.proofs.Common.{◌≡◌, ◌<◌, Bool, List, Option, Some, true, false, take, get_or, length, sym, ◌∙◌, ap, subst, arith}
 use Rattle.std.specs.Prelude.{IsTrue, slice_get}
 use Rattle.std.proofs.lemmas.Option.{get_or_from_slice_get, slice_get_within}
+use Rattle.cap_disk.specs.Disk.{IsQuiet}
 use Rattle.cap_entries.specs.declared.terminal.TermEntry.{TermEntry}
 use Rattle.cap_entries.specs.Settings.{TerminalSettings}
 use Rattle.cap_entries.specs.Allowed.{allowed}
@@ -11,9 +12,11 @@ use Rattle.cap_terminal.specs.View.{index_view}
 use Rattle.cap_terminal.specs.declared.change.Change.{Change}
 use Rattle.cap_terminal.specs.Ready.{IsReady}
 use Rattle.cap_terminal.specs.Opening.{setup_in, setup_from}
+use Rattle.cap_terminal.specs.declared.faults.TermOpenCause.{TermOpenCause}
+use Rattle.cap_terminal.specs.declared.faults.TermOpenCause.TheVariants.{Disk}
 use Rattle.cap_terminal.proofs.Growth.{index_push}
-use Rattle.cap_terminal.proofs.Moments.{leaves_same, stays_through}
-use Rattle.cap_terminal.proofs.Openings.{ready_for, setup_in_push, take_at, first_of_some, refused_at}
+use Rattle.cap_terminal.proofs.Moments.{leaves_same, stays_through, quiet_through, quiet_never}
+use Rattle.cap_terminal.proofs.Openings.{ready_for, setup_in_push, take_at, first_of_some, refused_at, answered_behind}
 use Rattle.cap_terminal.proofs.opening.read_entries.Goals as goal
 
 pub apply-requires : goal.apply-requires
@@ -69,7 +72,10 @@ loop-i-preserved g c =
       started = c.setup_with-setup.ensures ∙ (ap (λ (s : Option TerminalSettings). setup_from s entry) inv.started ∙ (sym (setup_in_push before entry fine) ∙ ap setup_in (sym grown)));
       legal = legal-take entries i entry within fine' inv.legal;
       rest = refused-take entries i entry within fine' ∙ inv.rest;
-      readable = subst (λ (b : Bool). IsTrue b) (sym c.in_ok-entry.ensures.is_readable) inv.readable;
+      many = inv.many;
+      readable = c.in_ok-entry.ensures.is_readable ∙ inv.readable;
+      is_readable = c.in_ok-entry.ensures.is_readable ∙ inv.is_readable;
+      len = c.in_ok-entry.ensures.len ∙ inv.len;
       same = c.in_ok-entry.ensures.entries ∙ inv.same;
       faults = omega (arith, inv.faults, c.in_ok-entry.ensures.faults);
       counts = stays_through (J.counts c.args.journal.now) (J.counts c.loop-i.journal) (J.counts c.entry_at.new.journal) inv.counts c.in_ok-entry.ensures.counts;
@@ -108,3 +114,13 @@ returns-in_err-make_room-clause-images g c = λ told.
     let first = inv.images told in
     leaves_same J.moment J.left_since J.may_leave c.args.journal.now c.loop-i.journal c.entry_at.new.journal
     (λ image left. g.met.J.Journal.counts_now c.loop-i.journal (J.moment c.args.journal.now) image told' first.later left) first (c.in_ok-entry.ensures.images told')
+
+pub returns-then-not-allows-clause-quiet : goal.returns-then-not-allows-clause-quiet
+returns-then-not-allows-clause-quiet g c = quiet_never (g.J.Journal.counts c.args.journal.now) _ (λ is. cc)
+
+pub returns-in_err-entry-clause-quiet : goal.returns-in_err-entry-clause-quiet
+returns-in_err-entry-clause-quiet g c =
+    let before = g.J.Journal.counts c.args.journal.now in
+    let error = c.in_err-entry.field-0.0 in
+    answered_behind c.from_residual.result error (λ (cause : TermOpenCause). IsQuiet before (cause ≡ Disk)) c.from_residual.ensures.1
+    (quiet_through before (g.J.Journal.counts c.loop-i.journal) (error ≡ Disk) c.loop-i.invariant.counts c.in_err-entry.ensures.quiet)

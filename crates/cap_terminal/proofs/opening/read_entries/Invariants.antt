@@ -1,4 +1,4 @@
-use Rattle.std.proofs.Common.{◌≡◌, ◌≤◌, [], true, take, drop}
+use Rattle.std.proofs.Common.{◌≡◌, ◌≤◌, [], true, take, drop, length}
 use Rattle.std.specs.Prelude.{IsTrue}
 use Rattle.cap_disk.specs.Disk.{LeavesOnly, StaysCounted}
 use Rattle.cap_entries.specs.Allowed.{all_allowed}
@@ -19,7 +19,10 @@ invariant-loop-i g l =
       started : l.setup ≡ setup_in (take l.i entries);
       legal : all_allowed [] (take l.i entries) ≡ true;
       rest : first_refused (take l.i entries) (drop l.i entries) ≡ first_refused [] entries;
+      many : l.i-end ≡ length entries;
       readable : IsTrue (J.is_readable l.journal);
+      is_readable : J.is_readable l.journal ≡ J.is_readable l.initial.journal;
+      len : J.len l.journal ≡ J.len l.initial.journal;
       same : J.entries l.journal ≡ entries;
       faults : J.faults l.initial.journal ≤ J.faults l.journal;
       counts : StaysCounted (J.counts l.initial.journal) (J.counts l.journal);

@@ -1,12 +1,13 @@
-use Rattle.std.proofs.Common.{◌≡◌, ℕ, [], ◌∷◌, None, Err, refl, true, sym, subst, ap, ◌∙◌}
+use Rattle.std.proofs.Common.{◌≡◌, ℕ, None, true, sym, subst, ap, ◌∙◌}
 use Rattle.std.proofs.lemmas.Bool.{false≢true}
 use Rattle.cap_entries.specs.declared.terminal.TermEntry.{TermEntry}
 use Rattle.cap_entries.specs.declared.terminal.TermEntry.TheVariants.{Voided}
 use Rattle.cap_schedule.specs.declared.outcome.Outcome.TheVariants.{GivenUp}
 use Rattle.cap_terminal.specs.declared.faults.EntryFault.{EntryFault}
+use Rattle.cap_terminal.specs.Adding.{entry_as}
 use Rattle.cap_terminal.specs.Causes.{IsEntryCause}
 use Rattle.cap_terminal_lines.specs.declared.said.Said.{Said}
-use Rattle.cap_terminal_lines.proofs.Steps.{add_ok, add_disk, grew_adding, broke_adding}
+use Rattle.cap_terminal_lines.proofs.Steps.{add_ok, add_disk, grew, broke}
 use Rattle.cap_terminal_lines.proofs.ends.give_up.Goals as goal
 
 pub void_approved-requires : goal.void_approved-requires
@@ -20,8 +21,8 @@ returns-in-Ok-clause-done g c =
     let entry : TermEntry = Voided c.args.approved.n in
     let number : c.n-n.result ≡ c.args.approved.n = c.n-n.ensures in
     let is = c.quiet.ensures ∙ ap (λ (n : ℕ). let d : Said = record { outcome = GivenUp n; sent = None } in d) number in
-    add_ok J.entries J.has_failed J.tells J.may_leave J.counts old new entry (GivenUp c.args.approved.n) c.quiet.result is
-    (grew_adding J.entries J.has_failed J.tells J.may_leave J.counts old new (entry ∷ []) _ _ _ c.in-Ok.ensures.ok c.in-Ok.ensures.in_images (c.in-Ok.ensures.still_works (λ e. cc) ∙ c.in-Ok.ensures.answers) c.in-Ok.ensures.tells c.in-Ok.ensures.counts refl (λ e. cc) (λ works. works))
+    add_ok J old new entry (GivenUp c.args.approved.n) c.quiet.result is
+    (grew J g.met.J.Journal.kept g.met.J.Journal.told_is_readable old new entry c.in-Ok.ensures.adds)
 
 pub returns-in-Err-Disk-clause-done : goal.returns-in-Err-Disk-clause-done
 returns-in-Err-Disk-clause-done g c =
@@ -29,10 +30,13 @@ returns-in-Err-Disk-clause-done g c =
     let old = c.args.terminal.now in
     let new = c.void_approved.new.self in
     let entry : TermEntry = Voided c.args.approved.n in
-    add_disk J.entries J.has_failed J.tells J.may_leave J.counts old new entry (GivenUp c.args.approved.n)
-    (broke_adding J.entries J.has_failed J.tells J.may_leave J.counts old new (entry ∷ []) _ _ _ (λ told. c.in-Err-Disk.ensures.in_doubt told (ap Err c.in-Err-Disk.field-0-is)) c.in-Err-Disk.ensures.counts (ap Err c.in-Err-Disk.field-0-is))
+    add_disk J old new entry (GivenUp c.args.approved.n)
+    (broke J g.met.J.Journal.kept g.met.J.Journal.counts_now old new entry (entry_as c.in-Err-Disk.field-0) (ap entry_as c.in-Err-Disk.field-0-is) c.in-Err-Disk.ensures.adds)
 
 pub returns-in-Err-Failed-clause-done : goal.returns-in-Err-Failed-clause-done
 returns-in-Err-Failed-clause-done g c = λ action heard s places armed ended before ready.
     let failed : g.J.Journal.has_failed c.args.terminal.now ≡ true = subst (λ (f : EntryFault). IsEntryCause (g.J.Journal.has_failed c.args.terminal.now) f) c.in-Err-Failed.field-0-is c.in-Err-Failed.ensures.refused in
     absurd (false≢true (sym ready.works ∙ failed))
+
+pub returns-in-Ok-clause-works : goal.returns-in-Ok-clause-works
+returns-in-Ok-clause-works g c = c.in-Ok.ensures.adds.stays.still (λ e. cc)

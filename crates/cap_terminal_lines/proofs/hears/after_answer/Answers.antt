@@ -14,7 +14,7 @@ pub returns-in-Some-clause-done : goal.returns-in-Some-clause-done
 returns-in-Some-clause-done g c =
     let J = g.J.Journal in
     let handled_is = decision_is c.args.handled.now c.in-Some.answer c.in-Some.ensures in
-    subst (λ (h : Handled). DecidedDone J.entries J.has_failed J.tells J.may_leave J.counts c.args.terminal.now c.on_decision.new.terminal (λ l. on_handled c.args.walks_out l h) c.on_decision.result) (sym handled_is) c.on_decision.ensures.done
+    subst (λ (h : Handled). DecidedDone J c.args.terminal.now c.on_decision.new.terminal (λ l. on_handled c.args.walks_out l h) c.on_decision.result) (sym handled_is) c.on_decision.ensures.done
 
 pub returns-in-Some-clause-says : goal.returns-in-Some-clause-says
 returns-in-Some-clause-says g c = λ alone. absurd (none-some c.in-Some.answer (sym (c.in-Some.ensures ∙ alone)))
@@ -29,8 +29,8 @@ returns-in-None-clause-done g c = λ action heard s places armed ended before re
     let alone : decision_in c.args.handled.now ≡ None = sym c.in-None.ensures in
     let outcome = (on_handled false [] c.args.handled.now).outcome in
     let told = c.quiet.ensures ∙ ap says_only c.outcome_of.ensures in
-    subst (λ (d : Decided). LineDone J.entries J.has_failed J.tells J.may_leave J.counts 4 old heard s places armed ended before (makes (record { action = action; added = d.added; sent = [] }) d.outcome) (Ok c.quiet.result)) (sym (alone_decided c.args.walks_out s.settled c.args.handled.now alone))
-    (quiet_line J.entries J.has_failed J.tells J.may_leave J.counts 4 old heard s places armed ended before action [] outcome c.quiet.result ready (ap (λ (d : Said). d.outcome) told) (subst (λ (d : Said). IsSent d.sent []) (sym told) tt))
+    subst (λ (d : Decided). LineDone J 4 old heard s places armed ended before (makes (record { action = action; added = d.added; sent = [] }) d.outcome) (Ok c.quiet.result)) (sym (alone_decided c.args.walks_out s.settled c.args.handled.now alone))
+    (quiet_line J 4 old heard s places armed ended before action [] outcome c.quiet.result ready (ap (λ (d : Said). d.outcome) told) (subst (λ (d : Said). IsSent d.sent []) (sym told) tt))
 
 pub returns-in-None-clause-says : goal.returns-in-None-clause-says
 returns-in-None-clause-says g c = λ alone.

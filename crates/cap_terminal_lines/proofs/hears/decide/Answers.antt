@@ -21,11 +21,11 @@ returns-in-Ok-clause-done g c =
     let w = c.args.walks_out in
     let answer = c.args.answer.now in
     let new = c.settle.new.terminal in
-    let Q : ℕ → List ℕ → Type 0 = λ n code. AddDone J.entries J.has_failed J.tells J.may_leave J.counts c.args.terminal.now new (on_approval w n code).added (on_approval w n code).outcome c.settle.result in
+    let Q : ℕ → List ℕ → Type 0 = λ n code. AddDone J c.args.terminal.now new (on_approval w n code).added (on_approval w n code).outcome c.settle.result in
     let one = subst (λ (a : ApprovedSale). Q a.n a.code) c.in-Ok.ensures.approved c.settle.ensures.done in
     let two = subst (λ (n : ℕ). Q n answer.code) c.requires.sale one in
     let appr = (c.in-Ok.ensures.exact.0 refl).1 in
-    subst (λ (r : Response). AddDone J.entries J.has_failed J.tells J.may_leave J.counts c.args.terminal.now new (on_response w answer.n r answer.code).added (on_response w answer.n r answer.code).outcome c.settle.result) (sym appr) two
+    subst (λ (r : Response). AddDone J c.args.terminal.now new (on_response w answer.n r answer.code).added (on_response w answer.n r answer.code).outcome c.settle.result) (sym appr) two
 
 pub decline-requires : goal.decline-requires
 decline-requires g c =
@@ -40,8 +40,8 @@ returns-in-Err-Declined-clause-done g c =
     let new = c.decline.new.terminal in
     let refused = subst (λ (f : AuthRefused). IsAuthRefusal c.args.begun answer f) c.in-Err-Declined.field-0-is c.in-Err-Declined.ensures.refused in
     let other : answer.response ≡ Appr → ⊥ = λ appr. refused.3 (refused.2 ∙ appr) in
-    let D : Decided → Type 0 = λ d. AddDone J.entries J.has_failed J.tells J.may_leave J.counts c.args.terminal.now new d.added d.outcome c.decline.result in
-    let A : ℕ → Type 0 = λ n. AddDone J.entries J.has_failed J.tells J.may_leave J.counts c.args.terminal.now new (Declined n ∷ []) (O.DeclinedSale n) c.decline.result in
+    let D : Decided → Type 0 = λ d. AddDone J c.args.terminal.now new d.added d.outcome c.decline.result in
+    let A : ℕ → Type 0 = λ n. AddDone J c.args.terminal.now new (Declined n ∷ []) (O.DeclinedSale n) c.decline.result in
     let one = subst (λ (b : BegunSale). A b.n) refused.0 c.decline.ensures.done in
     subst D (sym (declined w answer.n answer.response answer.code other)) (subst A c.requires.sale one)
 

@@ -23,7 +23,7 @@ returns-in-Some-clause-done g c = λ heard s places armed ended before ready tex
     let reads = subst (λ (t : List ℕ). Reads t (Read message)) (sym found.2.text_is) (c.texts_read_again.ensures.again message found.2.spellable) in
     let place = counted_nth s.answers places heard j message ready.stands.answers_are found.1 in
     let line = c.hear.ensures.done (Read message) reads (Takes_answer place.0 (decides_on w s.settled (Read message)).decision) heard s places armed ended before ready in
-    let L : Turn → Type 0 = λ v. LineDone J.entries J.has_failed J.tells J.may_leave J.counts 4 new heard s places armed ended before v c.hear.result in
+    let L : Turn → Type 0 = λ v. LineDone J 4 new heard s places armed ended before v c.hear.result in
     subst (λ (o : Option ℕ). L (hears w s j o)) (sym place.1) (subst (λ (o : Option Message). L (hears_it w s j place.0 o)) (sym place.2) line)
 
 pub returns-in-None-clause-done : goal.returns-in-None-clause-done
@@ -31,5 +31,5 @@ returns-in-None-clause-done g c = λ heard s places armed ended before ready tex
     let J = g.J.Journal in
     let j = c.args.j in
     let none = counted_nth_past s.answers places heard j ready.stands.answers_are (text_past (texts_in c.args.answers.now) heard j texts c.in-None.ensures) in
-    let L : Turn → Type 0 = λ v. LineDone J.entries J.has_failed J.tells J.may_leave J.counts 4 c.args.terminal.now heard s places armed ended before v (Ok c.quiet.result) in
-    subst (λ (o : Option ℕ). L (hears c.args.walks_out s j o)) (sym none) (said_line J.entries J.has_failed J.tells J.may_leave J.counts 4 c.args.terminal.now heard s places armed ended before (O.NoMessage j) c.quiet.result ready c.quiet.ensures)
+    let L : Turn → Type 0 = λ v. LineDone J 4 c.args.terminal.now heard s places armed ended before v (Ok c.quiet.result) in
+    subst (λ (o : Option ℕ). L (hears c.args.walks_out s j o)) (sym none) (said_line J 4 c.args.terminal.now heard s places armed ended before (O.NoMessage j) c.quiet.result ready c.quiet.ensures)

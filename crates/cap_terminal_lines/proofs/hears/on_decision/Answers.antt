@@ -25,7 +25,7 @@ returns-in-Some-clause-done g c = λ action heard s places armed ended before re
     let w = c.args.walks_out in
     let answer = c.args.answer.now in
     let is : J.entries old ≡ s.settled = ready.stands.end.entries_are refl in
-    let M : Decided → Type 0 = λ d. LineDone J.entries J.has_failed J.tells J.may_leave J.counts 4 new heard s places armed ended before (makes (record { action = action; added = d.added; sent = [] }) d.outcome) c.decide.result in
+    let M : Decided → Type 0 = λ d. LineDone J 4 new heard s places armed ended before (makes (record { action = action; added = d.added; sent = [] }) d.outcome) c.decide.result in
     subst (λ (l : List TermEntry). M (on_authorisation w l answer)) is
     (subst M (sym (cond-true (is_pending (J.entries old) answer.n) _ _ (c.in-Some.ensures.exact.0 refl))) (c.decide.ensures.done action heard s places armed ended before ready))
 
@@ -37,7 +37,7 @@ returns-in-None-clause-done g c = λ action heard s places armed ended before re
     let answer = c.args.answer.now in
     let is : J.entries old ≡ s.settled = ready.stands.end.entries_are refl in
     let none = false_from_ne_true _ (λ t. false≢true (c.in-None.ensures.exact.1 t)) in
-    let M : Decided → Type 0 = λ d. LineDone J.entries J.has_failed J.tells J.may_leave J.counts 4 old heard s places armed ended before (makes (record { action = action; added = d.added; sent = [] }) d.outcome) (Ok c.quiet.result) in
+    let M : Decided → Type 0 = λ d. LineDone J 4 old heard s places armed ended before (makes (record { action = action; added = d.added; sent = [] }) d.outcome) (Ok c.quiet.result) in
     subst (λ (l : List TermEntry). M (on_authorisation w l answer)) is
     (subst M (sym (cond-false (is_pending (J.entries old) answer.n) _ _ none))
-    (quiet_line J.entries J.has_failed J.tells J.may_leave J.counts 4 old heard s places armed ended before action [] (O.NotPending answer.n) c.quiet.result ready (ap (λ (d : Said). d.outcome) c.quiet.ensures) (subst (λ (d : Said). IsSent d.sent []) (sym c.quiet.ensures) tt)))
+    (quiet_line J 4 old heard s places armed ended before action [] (O.NotPending answer.n) c.quiet.result ready (ap (λ (d : Said). d.outcome) c.quiet.ensures) (subst (λ (d : Said). IsSent d.sent []) (sym c.quiet.ensures) tt)))

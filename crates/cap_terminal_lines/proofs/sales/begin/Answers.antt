@@ -6,6 +6,7 @@ use Rattle.cap_entries.specs.declared.terminal.TermEntry.TheVariants.{Begin}
 use Rattle.cap_entries.specs.Entry.{is_any_begin, max_of}
 use Rattle.cap_sale.specs.Tokens.{BegunSale}
 use Rattle.cap_schedule.specs.declared.outcome.Outcome.TheVariants as O
+use Rattle.cap_terminal.specs.Adding.{begin_as}
 use Rattle.cap_terminal.specs.Causes.{IsBeginCause}
 use Rattle.cap_terminal.specs.declared.faults.BeginFault.{BeginFault}
 use Rattle.cap_world.specs.World.{Begins}
@@ -13,7 +14,7 @@ use Rattle.cap_plays.specs.declared.fault.LineFault.TheVariants.{Disk}
 use Rattle.cap_plays.specs.Turns.{Turn, makes, says, begins, next_sale}
 use Rattle.cap_terminal_lines.specs.declared.said.Said.{Said}
 use Rattle.cap_terminal_lines.specs.Acts.{LineDone}
-use Rattle.cap_terminal_lines.proofs.Steps.{add_ok, grew_trying, broke_trying, rest_trying, rest_of, rested_ready, said_line, broken_line}
+use Rattle.cap_terminal_lines.proofs.Steps.{add_ok, grew, broke, rested, rested_ready, still_works, said_line, broken_line}
 use Rattle.cap_terminal_lines.proofs.sales.begin.Goals as goal
 
 pub returns-in-Ok-clause-done : goal.returns-in-Ok-clause-done
@@ -22,15 +23,15 @@ returns-in-Ok-clause-done g c = λ heard s places armed ended before ready.
     let old = c.args.terminal.now in
     let new = c.begin.new.self in
     let is : J.entries old ≡ s.settled = ready.stands.end.entries_are refl in
-    let L : Turn → Type 0 = λ v. LineDone J.entries J.has_failed J.tells J.may_leave J.counts 4 new heard s places armed ended before v (Ok c.quiet.result) in
+    let L : Turn → Type 0 = λ v. LineDone J 4 new heard s places armed ended before v (Ok c.quiet.result) in
     let e = c.in-Ok.ensures in
     let next = next_sale (J.entries old) in
     let entry : TermEntry = Begin next c.args.amount c.args.account in
-    let grows = grew_trying J.entries J.has_failed J.tells J.may_leave J.counts old new (entry ∷ []) _ _ _ _ e.ok e.in_images (e.still_works (λ x. cc) ∙ e.answers.0) e.tells e.counts refl (λ x. cc) (λ x. cc) e.answers in
+    let grows = grew J g.met.J.Journal.kept g.met.J.Journal.told_is_readable old new entry e.adds in
     let told = c.quiet.ensures ∙ ap (λ (k : ℕ). let d : Said = record { outcome = O.Begun k; sent = None } in d) (c.n-n.ensures ∙ ap (λ (b : BegunSale). b.n) e.begun) in
     subst (λ (l : List TermEntry). L (if nat_lt (count_by is_any_begin l) (max_of l) then makes (begins l c.args.amount c.args.account) (O.Begun (next_sale l)) else says (O.Limit (max_of l)))) is
     (subst (λ (v : Turn). L v) (sym (cond-true (nat_lt (count_by is_any_begin (J.entries old)) (max_of (J.entries old))) _ _ (lt-ltb _ _ e.answers.1)))
-    (add_ok J.entries J.has_failed J.tells J.may_leave J.counts old new entry (O.Begun next) c.quiet.result told grows (Begins c.args.amount c.args.account) heard s places armed ended before ready))
+    (add_ok J old new entry (O.Begun next) c.quiet.result told grows (Begins c.args.amount c.args.account) heard s places armed ended before ready))
 
 pub returns-in-Err-SaleLimit-clause-done : goal.returns-in-Err-SaleLimit-clause-done
 returns-in-Err-SaleLimit-clause-done g c = λ heard s places armed ended before ready.
@@ -38,15 +39,15 @@ returns-in-Err-SaleLimit-clause-done g c = λ heard s places armed ended before 
     let old = c.args.terminal.now in
     let new = c.begin.new.self in
     let is : J.entries old ≡ s.settled = ready.stands.end.entries_are refl in
-    let L : Turn → Type 0 = λ v. LineDone J.entries J.has_failed J.tells J.may_leave J.counts 4 new heard s places armed ended before v (Ok c.quiet-in-Err-SaleLimit.result) in
+    let L : Turn → Type 0 = λ v. LineDone J 4 new heard s places armed ended before v (Ok c.quiet-in-Err-SaleLimit.result) in
     let e = c.in-Err-SaleLimit.ensures in
-    let rests = rest_of J.entries J.has_failed J.tells J.may_leave J.counts old new before g.met.J.Journal.kept ready.told ready.works e.tells (e.still_works (λ x. cc)) e.err (rest_trying (J.counts old) (J.counts new) _ _ _ _ before ready.counts_are ready.few e.counts (λ x. cc) (λ x. cc)) in
-    let again = rested_ready J.entries J.has_failed J.tells J.may_leave J.counts 4 old new heard s places armed before ready rests in
+    let rests = rested J g.met.J.Journal.kept old new (Begin (next_sale (J.entries old)) c.args.amount c.args.account) (begin_as c.in-Err-SaleLimit.field-0) (ap begin_as c.in-Err-SaleLimit.field-0-is) e.adds before ready.counts_are ready.few ready.told ready.works in
+    let again = rested_ready J 4 old new heard s places armed before ready rests in
     let cause = subst (λ (f : BeginFault). IsBeginCause (J.has_failed old) (J.entries old) f) c.in-Err-SaleLimit.field-0-is e.refused in
     let told = c.quiet-in-Err-SaleLimit.ensures ∙ ap (λ (k : ℕ). let d : Said = record { outcome = O.Limit k; sent = None } in d) (cause.1) in
     subst (λ (l : List TermEntry). L (if nat_lt (count_by is_any_begin l) (max_of l) then makes (begins l c.args.amount c.args.account) (O.Begun (next_sale l)) else says (O.Limit (max_of l)))) is
     (subst (λ (v : Turn). L v) (sym (cond-false (nat_lt (count_by is_any_begin (J.entries old)) (max_of (J.entries old))) _ _ (le-ltb _ _ cause.2)))
-    (said_line J.entries J.has_failed J.tells J.may_leave J.counts 4 new heard s places armed ended before (O.Limit (max_of (J.entries old))) c.quiet-in-Err-SaleLimit.result again told))
+    (said_line J 4 new heard s places armed ended before (O.Limit (max_of (J.entries old))) c.quiet-in-Err-SaleLimit.result again told))
 
 pub returns-in-Err-Disk-clause-done : goal.returns-in-Err-Disk-clause-done
 returns-in-Err-Disk-clause-done g c = λ heard s places armed ended before ready.
@@ -54,14 +55,14 @@ returns-in-Err-Disk-clause-done g c = λ heard s places armed ended before ready
     let old = c.args.terminal.now in
     let new = c.begin.new.self in
     let is : J.entries old ≡ s.settled = ready.stands.end.entries_are refl in
-    let L : Turn → Type 0 = λ v. LineDone J.entries J.has_failed J.tells J.may_leave J.counts 4 new heard s places armed ended before v (Err Disk) in
+    let L : Turn → Type 0 = λ v. LineDone J 4 new heard s places armed ended before v (Err Disk) in
     let e = c.in-Err-Disk.ensures in
     let entry : TermEntry = Begin (next_sale (J.entries old)) c.args.amount c.args.account in
     let may = subst (λ (f : BeginFault). IsBeginCause (J.has_failed old) (J.entries old) f) c.in-Err-Disk.field-0-is e.refused in
-    let broke = broke_trying J.entries J.has_failed J.tells J.may_leave J.counts old new (entry ∷ []) _ _ _ _ (λ told. e.in_doubt told (ap Err c.in-Err-Disk.field-0-is)) e.counts (ap Err c.in-Err-Disk.field-0-is) before ready.counts_are ready.few ready.told ready.works in
+    let broken = broke J g.met.J.Journal.kept g.met.J.Journal.counts_now old new entry (begin_as c.in-Err-Disk.field-0) (ap begin_as c.in-Err-Disk.field-0-is) e.adds before ready.counts_are ready.few ready.told ready.works in
     subst (λ (l : List TermEntry). L (if nat_lt (count_by is_any_begin l) (max_of l) then makes (begins l c.args.amount c.args.account) (O.Begun (next_sale l)) else says (O.Limit (max_of l)))) is
     (subst (λ (v : Turn). L v) (sym (cond-true (nat_lt (count_by is_any_begin (J.entries old)) (max_of (J.entries old))) _ _ (lt-ltb _ _ may.1)))
-    (broken_line J.entries J.has_failed J.tells J.may_leave J.counts 4 4 old new heard s places armed ended before (Begins c.args.amount c.args.account) entry (says (O.Begun (next_sale (J.entries old)))) ready broke))
+    (broken_line J 4 4 old new heard s places armed ended before (Begins c.args.amount c.args.account) entry (says (O.Begun (next_sale (J.entries old)))) ready broken))
 
 pub returns-in-Err-Failed-clause-done : goal.returns-in-Err-Failed-clause-done
 returns-in-Err-Failed-clause-done g c = λ heard s places armed ended before ready.
@@ -72,3 +73,12 @@ returns-in-Err-Failed-clause-done g c = λ heard s places armed ended before rea
 
 pub returns-in-Err-Memory-clause-done : goal.returns-in-Err-Memory-clause-done
 returns-in-Err-Memory-clause-done g c = λ heard s places armed ended before ready. tt
+
+pub returns-in-Ok-clause-works : goal.returns-in-Ok-clause-works
+returns-in-Ok-clause-works g c = c.in-Ok.ensures.adds.stays.still (λ e. cc)
+
+pub returns-in-Err-SaleLimit-clause-works : goal.returns-in-Err-SaleLimit-clause-works
+returns-in-Err-SaleLimit-clause-works g c =
+    let J = g.J.Journal in
+    let old = c.args.terminal.now in
+    still_works J old c.begin.new.self (Begin (next_sale (J.entries old)) c.args.amount c.args.account ∷ []) (begin_as c.in-Err-SaleLimit.field-0) (ap begin_as c.in-Err-SaleLimit.field-0-is) c.in-Err-SaleLimit.ensures.adds

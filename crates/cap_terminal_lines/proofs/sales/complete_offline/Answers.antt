@@ -27,7 +27,7 @@ returns-in-Ok-clause-done g c = λ heard s places armed ended before ready.
     let old = c.args.terminal.now in
     let n = c.args.begun.n in
     let is : J.entries old ≡ s.settled = ready.stands.end.entries_are refl in
-    let L : Turn → Type 0 = λ v. LineDone J.entries J.has_failed J.tells J.may_leave J.counts 4 c.complete.new.terminal heard s places armed ended before v (c.complete.result) in
+    let L : Turn → Type 0 = λ v. LineDone J 4 c.complete.new.terminal heard s places armed ended before v (c.complete.result) in
     let amount : c.args.begun.amount ≡ amount_of (J.entries old) n = c.requires.amount_is in
     let le : amount_of (J.entries old) n ≤ floor (J.entries old) = subst (λ (a : ℕ). a ≤ floor (J.entries old)) amount (c.in-Ok.ensures.exact.0 refl) in
     let line = subst (λ (a : ApprovedSale). L (makes (adds (Offline n) (Completed a.n a.code)) (O.Sold a.n))) c.in-Ok.ensures.approved (c.complete.ensures.done (Offline n) heard s places armed ended before ready) in
@@ -41,7 +41,7 @@ returns-in-Err-clause-done g c = λ heard s places armed ended before ready.
     let old = c.args.terminal.now in
     let n = c.args.begun.n in
     let is : J.entries old ≡ s.settled = ready.stands.end.entries_are refl in
-    let L : Turn → Type 0 = λ v. LineDone J.entries J.has_failed J.tells J.may_leave J.counts 4 old heard s places armed ended before v (Ok c.quiet.result) in
+    let L : Turn → Type 0 = λ v. LineDone J 4 old heard s places armed ended before v (Ok c.quiet.result) in
     let amount : c.args.begun.amount ≡ amount_of (J.entries old) n = c.requires.amount_is in
     let not_le : nat_le (amount_of (J.entries old) n) (floor (J.entries old)) ≡ false = false_from_ne_true _ (λ t. false≢true (c.in-Err.ensures.exact.1 (subst (λ (a : ℕ). a ≤ floor (J.entries old)) (sym amount) (leb-true _ _ t)))) in
     let a = c.n-n.ensures in
@@ -49,7 +49,7 @@ returns-in-Err-clause-done g c = λ heard s places armed ended before ready.
     let d = ap (λ (x : AboveFloor). x.begun.n) c.in-Err.ensures.above in
     let number : c.n-n.result ≡ n = cc in
     let told = c.quiet.ensures ∙ ap (λ (k : ℕ). let d : Said = record { outcome = O.AboveFloor k; sent = None } in d) number in
-    let line = said_line J.entries J.has_failed J.tells J.may_leave J.counts 4 old heard s places armed ended before (O.AboveFloor n) c.quiet.result ready told in
+    let line = said_line J 4 old heard s places armed ended before (O.AboveFloor n) c.quiet.result ready told in
     subst (λ (l : List TermEntry). L (if is_pending l c.args.begun.n then (if nat_le (amount_of l c.args.begun.n) (floor l) then makes (completes_offline c.args.begun.n) (O.Sold c.args.begun.n) else says (O.AboveFloor c.args.begun.n)) else says (O.NotPending c.args.begun.n))) is
     (subst (λ (v : Turn). L v) (sym (cond-true (is_pending (J.entries old) n) _ _ c.requires.pending ∙ cond-false (nat_le (amount_of (J.entries old) n) (floor (J.entries old))) _ _ not_le))
     line)

@@ -22,7 +22,7 @@ returns-in-Some-clause-done g c = λ heard s places armed ended before ready.
     let new = c.void_begun.new.terminal in
     let n = c.args.n in
     let is : J.entries old ≡ s.settled = ready.stands.end.entries_are refl in
-    let L : Turn → Type 0 = λ v. LineDone J.entries J.has_failed J.tells J.may_leave J.counts 4 new heard s places armed ended before v c.void_begun.result in
+    let L : Turn → Type 0 = λ v. LineDone J 4 new heard s places armed ended before v c.void_begun.result in
     let pending = c.in-Some.ensures.exact.0 refl in
     let number = ap (λ (b : BegunSale). b.n) c.in-Some.ensures.token in
     subst (λ (l : List TermEntry). L (if is_pending l n then makes (adds (Gives_up n) (Voided n)) (O.GivenUp n) else says (O.NotPending n))) is
@@ -35,8 +35,8 @@ returns-in-None-clause-done g c = λ heard s places armed ended before ready.
     let old = c.args.terminal.now in
     let n = c.args.n in
     let is : J.entries old ≡ s.settled = ready.stands.end.entries_are refl in
-    let L : Turn → Type 0 = λ v. LineDone J.entries J.has_failed J.tells J.may_leave J.counts 4 old heard s places armed ended before v (Ok c.quiet.result) in
+    let L : Turn → Type 0 = λ v. LineDone J 4 old heard s places armed ended before v (Ok c.quiet.result) in
     let none = false_from_ne_true _ (λ t. false≢true (c.in-None.ensures.exact.1 t)) in
     subst (λ (l : List TermEntry). L (if is_pending l n then makes (adds (Gives_up n) (Voided n)) (O.GivenUp n) else says (O.NotPending n))) is
     (subst (λ (v : Turn). L v) (sym (cond-false (is_pending (J.entries old) n) _ _ none))
-    (said_line J.entries J.has_failed J.tells J.may_leave J.counts 4 old heard s places armed ended before (O.NotPending n) c.quiet.result ready c.quiet.ensures))
+    (said_line J 4 old heard s places armed ended before (O.NotPending n) c.quiet.result ready c.quiet.ensures))

@@ -14,8 +14,8 @@ returns g c = λ heard s places armed ended before ready count.
     let J = g.J.Journal in
     let now = c.args.terminal.now in
     let is : J.entries now ≡ s.settled = ready.stands.end.entries_are refl in
-    let L : Turn → Type 0 = λ v. LineDone J.entries J.has_failed J.tells J.may_leave J.counts 0 now heard s places armed ended before v (c.send.result) in
+    let L : Turn → Type 0 = λ v. LineDone J 0 now heard s places armed ended before v (c.send.result) in
     let made = c.diagnose.ensures in
     let is_message : c.diagnose.result ≡ message_of s.settled made.0 None (0) (Of_batch (Diagnostic (acked s.settled))) = subst (λ (l : List TermEntry). c.diagnose.result ≡ message_of l made.0 None (0) (Of_batch (Diagnostic (acked l)))) is made.2 in
-    let line = sent_line J.entries J.has_failed J.tells J.may_leave J.counts now heard s places armed ended before (Diagnose) c.args.moment c.args.sent made.0 (0) (Of_batch (Diagnostic (acked s.settled))) c.diagnose.result c.send.result ready count is_message c.send.ensures in
+    let line = sent_line J now heard s places armed ended before (Diagnose) c.args.moment c.args.sent made.0 (0) (Of_batch (Diagnostic (acked s.settled))) c.diagnose.result c.send.result ready count is_message c.send.ensures in
     (made.0, made.1, line)

@@ -24,12 +24,12 @@ returns-in-Some g c = λ heard s places armed ended before ready count.
     let J = g.J.Journal in
     let now = c.args.terminal.now in
     let is : J.entries now ≡ s.settled = ready.stands.end.entries_are refl in
-    let L : Turn → Type 0 = λ v. LineDone J.entries J.has_failed J.tells J.may_leave J.counts 0 now heard s places armed ended before v (c.send.result) in
+    let L : Turn → Type 0 = λ v. LineDone J 0 now heard s places armed ended before v (c.send.result) in
     let m = c.in-Some.ensures.message in
     let made = m.3 in
     let head : queue_head s.settled ≡ Some m.0 = subst (λ (l : List TermEntry). queue_head l ≡ Some m.0) is m.1 in
     let is_message : c.in-Some.message ≡ message_of s.settled made.0 None (acked s.settled + 1) (advice_of m.0) = subst (λ (l : List TermEntry). c.in-Some.message ≡ message_of l made.0 None (acked l + 1) (advice_of m.0)) is made.2 in
-    let line = sent_line J.entries J.has_failed J.tells J.may_leave J.counts now heard s places armed ended before (Head 0) c.args.moment c.args.sent made.0 (acked s.settled + 1) (advice_of m.0) c.in-Some.message c.send.result ready count is_message c.send.ensures in
+    let line = sent_line J now heard s places armed ended before (Head 0) c.args.moment c.args.sent made.0 (acked s.settled + 1) (advice_of m.0) c.in-Some.message c.send.result ready count is_message c.send.ensures in
     (made.0, made.1, subst (λ (o : Option Item). L (sends_head s c.args.moment made.0 o)) (sym head) line)
 
 pub returns-in-None : goal.returns-in-None
@@ -37,8 +37,8 @@ returns-in-None g c = λ heard s places armed ended before ready count.
     let J = g.J.Journal in
     let now = c.args.terminal.now in
     let is : J.entries now ≡ s.settled = ready.stands.end.entries_are refl in
-    let L : Turn → Type 0 = λ v. LineDone J.entries J.has_failed J.tells J.may_leave J.counts 0 now heard s places armed ended before v (Ok c.quiet.result) in
+    let L : Turn → Type 0 = λ v. LineDone J 0 now heard s places armed ended before v (Ok c.quiet.result) in
     let past : queue_head (J.entries now) ≡ None = none_or (queue_head (J.entries now)) (λ item there. false≢true (c.in-None.ensures.some.1 (slice_get_within (items (J.entries now)) (acked (J.entries now)) item there))) in
     let head : queue_head s.settled ≡ None = subst (λ (l : List TermEntry). queue_head l ≡ None) is past in
-    let line = said_line J.entries J.has_failed J.tells J.may_leave J.counts 0 now heard s places armed ended before O.NothingQueued c.quiet.result ready c.quiet.ensures in
+    let line = said_line J 0 now heard s places armed ended before O.NothingQueued c.quiet.result ready c.quiet.ensures in
     (c.date_of.ensures.0, c.date_of.ensures.1, subst (λ (o : Option Item). L (sends_head s c.args.moment c.date_of.ensures.0 o)) (sym head) line)

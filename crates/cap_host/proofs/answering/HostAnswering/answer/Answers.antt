@@ -13,12 +13,12 @@ returns-clause-answers g c =
     record {
       added = (answer_received (entries_of c.args.self.now) r.0).added;
       to_add = λ readable. (r.0, r.1, refl);
-      ok = on_ok c.answer.result _ a.adds.grown;
+      ok = on_ok c.answer.result _ (a.adds.grown c.args.self.now.readable);
       reply = replied (entries_of c.args.self.now) c.args.moment c.args.bytes.now r.0 _ c.answer.result r.1 a.told;
       disk = λ e. (0, on_err c.answer.result Disk _ a.adds.stays.refused e ∙ sym (append-nil (entries_of c.args.self.now)));
       failed = λ e. on_err c.answer.result Failed _ a.adds.stays.refused e;
       memory = λ e. on_err c.answer.result Memory _ a.adds.stays.refused e;
-      has_cause = λ e. let f = a.adds.failed (ends_as c.answer.result Failed e) in (f.0, λ readable. f.1);
+      has_cause = λ e. let f = a.adds.failed_before (ends_as c.answer.result Failed e) in (f.0, λ readable. f.1);
       refuses = on_ok_where c.answer.result _ _ (on_ok c.answer.result _ a.adds.refuses);
       images = λ tells works. let l = a.adds.images tells in record {
         later = l.later;

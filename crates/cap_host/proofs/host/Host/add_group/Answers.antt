@@ -11,7 +11,7 @@ use Rattle.cap_entries.specs.declared.host.HostEntry.TheVariants.{Took}
 use Rattle.cap_entries.specs.HostRecord.{host_fits, is_took}
 use Rattle.cap_host_index.specs.Noted.{IsNoted, IsIndex}
 use Rattle.cap_host_index.specs.declared.index.LogIndex.{LogIndex}
-use Rattle.cap_host_ledger.specs.Ledger.{Adds, entries_in}
+use Rattle.cap_ledger.specs.Ledger.{Adds, entries_in}
 use Rattle.cap_host.specs.Host.{entries_of, spare_of, ending}
 use Rattle.cap_host.specs.Ties.{HostTies}
 use Rattle.cap_answering.specs.declared.fault.HostFault.{HostFault}
@@ -40,7 +40,9 @@ add_group-requires-clause-spare g c =
 
 pub overflow_sub-first : goal.overflow_sub-first
 overflow_sub-first g c =
-    omega (arith, c.count.ensures, grown_length _ (entries_of c.args.self.now) c.args.group.items c.args.terminal c.args.items.now c.in-Ok.ensures.adds.grown c.requires.group)
+    let adds = c.in-Ok.ensures.adds in
+    let readable = c.args.self.now.readable in
+    omega (arith, c.count.ensures.listed (adds.stays.is_readable ∙ readable), grown_length _ (entries_of c.args.self.now) c.args.group.items c.args.terminal c.args.items.now (adds.grown readable) c.requires.group)
 
 pub invariant_of-self : goal.invariant_of-self
 invariant_of-self g c =
@@ -72,10 +74,10 @@ invariant_of-self-in-Ok g c =
     let noted : IsNoted entries t items y = c.in_ok-note.ensures.noted entries t own c.requires.may.fit in
     let same : c.index_mut-in-Ok.result.now ≡ y = c.index_mut-in-Ok.ensures.value ∙ get_or-set_same host.logs.items t y c.index_mut-in-Ok.result.now placed in
     let adds = c.in-Ok.ensures.adds in
-    let many = grown_length _ entries c.args.group.items t items adds.grown c.requires.group in
-    let index : IsIndex (entries ++ map (Took t) items) t z = c.take_all.ensures entries t (omega (arith, c.count.ensures, many)) (subst (λ (i : LogIndex). IsNoted entries t items i) (sym same) noted) in
+    let many = grown_length _ entries c.args.group.items t items (adds.grown host.readable) c.requires.group in
+    let index : IsIndex (entries ++ map (Took t) items) t z = c.take_all.ensures entries t (omega (arith, c.count.ensures.listed (adds.stays.is_readable ∙ host.readable), many)) (subst (λ (i : LogIndex). IsNoted entries t items i) (sym same) noted) in
     let tied = ties_took entries host.setup host.sets.items host.logs.items t items z host.ties inside c.requires.may.fit index in
-    let grown : entries_in c.add_group.new.self ≡ entries ++ map (Took t) items = adds.grown ∙ ap (λ (l : List HostEntry). entries ++ l) c.requires.group in
+    let grown : entries_in c.add_group.new.self ≡ entries ++ map (Took t) items = adds.grown host.readable ∙ ap (λ (l : List HostEntry). entries ++ l) c.requires.group in
     record {
       named = host.named;
       wide = length_replaced (slice_set host.logs.items t y) t z ∙ (length_replaced host.logs.items t y ∙ host.wide);

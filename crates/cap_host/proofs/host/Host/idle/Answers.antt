@@ -1,7 +1,7 @@
 use Rattle.std.proofs.Common.{subst}
 use Rattle.std.specs.Prelude.{Result}
 use Rattle.cap_answering.specs.declared.fault.HostFault.{HostFault}
-use Rattle.cap_host_ledger.specs.Ledger.{OnlyReads}
+use Rattle.cap_ledger.specs.Ledger.{OnlyReads}
 use Rattle.cap_host.proofs.host.Host.idle.Goals as goal
 
 pub returns : goal.returns

@@ -38,6 +38,6 @@ returns-clause-live g c =
     let s = c.self.invariant.0 in
     let old = c.args.self.now in
     let legal : is_legal (g.J.Journal.entries old) ≡ true = subst (λ (j : g.row.J.Denot). is_legal (g.J.Journal.entries j) ≡ true) c.self.view_is s.legal in
-    subst (λ (l : List TermEntry). IsLive l c.args.n c.args.amount c.args.account) (sym c.in-Ok.ensures.ok)
+    subst (λ (l : List TermEntry). IsLive l c.args.n c.args.amount c.args.account) (sym (c.in-Ok.ensures.adds.grown s.readable))
     (subst (λ (l : List TermEntry). IsLive (l ++ Begin c.args.n c.args.amount c.args.account ∷ []) c.args.n c.args.amount c.args.account) (ap g.J.Journal.entries (sym c.self.view_is))
     (begun_live (g.J.Journal.entries old) c.args.n c.args.amount c.args.account legal c.requires.next c.requires.within))

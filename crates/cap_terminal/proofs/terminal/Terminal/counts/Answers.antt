@@ -1,4 +1,4 @@
-use Rattle.std.proofs.Common.{◌≡◌, length, ◌∙◌, arith, subst}
+use Rattle.std.proofs.Common.{◌≡◌, length, arith, subst}
 use Rattle.cap_terminal_answers.specs.declared.counts.Counts.{Counts}
 use Rattle.cap_terminal_answers.specs.Counts.{counts_of}
 use Rattle.cap_terminal.proofs.Room_laws.{counts_here}

@@ -1,16 +1,11 @@
-use Rattle.std.proofs.Common.{◌≡◌, ℕ, ◌≤◌, Option, sym, subst}
+use Rattle.std.proofs.Common.{◌≡◌, ℕ, subst}
 use Rattle.cap_leaf.specs.Date.{DateParts}
-use Rattle.std.specs.Prelude.{IsTrue}
 use Rattle.cap_msgs.specs.declared.message.Body.{Body}
 use Rattle.cap_msgs.specs.declared.message.Message.{Message}
 use Rattle.cap_msgs.specs.Moment.{IsMoment, counter}
 use Rattle.cap_entries.specs.Settings.{TerminalSettings}
-use Rattle.cap_entries.specs.Items.{items}
-use Rattle.cap_entries.specs.TermRecord.{term_reading}
-use Rattle.cap_journal.specs.Seen.{EveryImage}
 use Rattle.cap_terminal_answers.specs.Sends.{Is_message}
-use Rattle.cap_terminal.specs.Stands.{HasItems}
-use Rattle.cap_terminal.proofs.Failing.{holds_items}
+use Rattle.cap_terminal.proofs.Failing.{items_in_front}
 use Rattle.cap_terminal.proofs.terminal.Terminal.message.Goals as goal
 
 abbrev IsBy : ℕ → ℕ → ℕ → Body → Message → TerminalSettings → Type 0
@@ -25,8 +20,6 @@ returns-clause-message g c =
     (c.message_by.result.header.created, c.message_by.ensures.moment, c.message_by.ensures.message))
 
 pub returns-clause-in_images : goal.returns-clause-in_images
-returns-clause-in_images g c =
-    let J = g.J.Journal in
-    let s = c.self.invariant.0 in
-    subst (λ (j : g.row.J.Denot). IsTrue (J.tells j) → EveryImage J.may_leave j (HasItems term_reading (items (J.entries j)))) c.self.view_is
-    (holds_items J.entries J.has_failed J.tells J.may_leave c.self.inside.journal c.self.inside.failed s.failed_is s.images_are g.met.J.Journal.kept)
+returns-clause-in_images g c = λ told image left.
+    let now = c.args.self.now in
+    items_in_front (g.J.Journal.entries now) image (g.met.J.Journal.stands now image told left)

@@ -1,0 +1,4 @@
+pub mod Adding
+pub mod Ledger
+pub mod Laws
+pub mod Appended

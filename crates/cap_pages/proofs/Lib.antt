@@ -1,0 +1,4 @@
+mod Paging
+mod Marked
+mod Noting
+mod Standing

@@ -132,6 +132,10 @@ def documents():
         new = advice if new == b"@" else plain(new)
         case(f"an edited advice {line!r}", ["show"], advice[:at] + new + advice[at + removed:], 0, output + b"\n")
     case("65,536 bytes of <", ["show"], b"<" * 65_536, 0, b"fault PARS at 0 exchange 0\n")
+    for at in range(len(advice)):
+        status, output, _ = run(["show"], advice[:at])
+        fault = re.fullmatch(rb"fault [A-Z]{4} at (\d+) exchange [01]\n", output)
+        check(f"the first {at} bytes of an advice: a fault, not beyond them", (status, bool(fault) and int(fault[1]) <= at), (0, True))
     for at in range(len(advice) + 1):
         check(f"an advice in two pieces, of which the first has {at} bytes", show_pieces([advice[:at], advice[at:]]), (0, shown))
 

@@ -6,6 +6,7 @@ nothing is run. It prints, for each crate, the seconds at which it was proved, t
 processor), and those until its wrong bodies were refused; then the longest chain: from the crate that was proved last, each time the crate below that was proved last.
 """
 
+import argparse
 import os
 import re
 import subprocess
@@ -37,7 +38,9 @@ def run(log):
 
 
 def main():
-    log = sys.argv[1] if len(sys.argv) > 1 else os.path.join(tempfile.mkdtemp(prefix="gate."), "log")
+    parser = argparse.ArgumentParser(description=__doc__, formatter_class=argparse.RawDescriptionHelpFormatter)
+    parser.add_argument("log", metavar="LOG", nargs="?")
+    log = parser.parse_args().log or os.path.join(tempfile.mkdtemp(prefix="gate."), "log")
     if not os.path.exists(log):
         print(f"gate: {log}", file=sys.stderr)
         run(log)

@@ -37,14 +37,21 @@ numbers_of entries = record {
 
 unfoldable pub sales_text : TerminalNumbers → List ℕ
 sales_text c =
-    concat (codes " sales " ∷ decimal c.sales ∷ codes " completed " ∷ decimal c.completed ∷ codes " cancelled " ∷ decimal c.cancelled ∷ codes " voided " ∷ decimal c.voided ∷ codes " periods " ∷ [])
+    concat (codes "sales " ∷ decimal c.sales ∷ codes " completed " ∷ decimal c.completed ∷ codes " cancelled " ∷ decimal c.cancelled ∷ codes " voided " ∷ decimal c.voided ∷ codes " periods " ∷ [])
 
 unfoldable pub items_text : TerminalNumbers → List ℕ
 items_text c =
-    concat (decimal c.periods ∷ codes " items " ∷ decimal c.items ∷ codes " acked " ∷ decimal c.acked ∷ codes " set " ∷ decimal c.version ∷ (10 ∷ []) ∷ [])
+    concat (decimal c.periods ∷ codes " items " ∷ decimal c.items ∷ codes " acked " ∷ decimal c.acked ∷ codes " set " ∷ decimal c.version ∷ [])
+
+-- the numbers alone, and as a line
+abbrev pub numbers_text : TerminalNumbers → List ℕ
+numbers_text numbers = sales_text numbers ++ items_text numbers
+
+abbrev pub numbers_line : TerminalNumbers → List ℕ
+numbers_line numbers = numbers_text numbers ++ 10 ∷ []
 
 abbrev pub terminal_line : List ℕ → TerminalNumbers → List ℕ
-terminal_line id numbers = codes "terminal " ++ id ++ sales_text numbers ++ items_text numbers
+terminal_line id numbers = codes "terminal " ++ id ++ codes " " ++ numbers_line numbers
 
 abbrev pub terminal_text : List ℕ → List TermEntry → List ℕ
 terminal_text id entries = terminal_line id (numbers_of entries)

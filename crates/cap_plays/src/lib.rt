@@ -12,5 +12,5 @@ mod session;
 pub use fault::LineFault;
 pub use moments::{LAST_LINE, date_of, moment_of};
 pub use numbers::TerminalNumbers;
-pub use report::{put_host, put_outcome, put_period, put_terminal, put_verdict};
+pub use report::{put_host, put_numbers, put_outcome, put_period, put_terminal, put_verdict};
 pub use session::{Network, play};

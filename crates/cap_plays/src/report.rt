@@ -1,6 +1,6 @@
 ghost use Rattle.std.specs.Prelude.{◌≡◌, ◌++◌, OnOk, IfOk, string_bytes};
 ghost use Rattle.cap_schedule.specs.Outcomes.{outcome_line};
-ghost use Rattle.cap_plays.specs.Report.{sales_text, items_text, terminal_line, host_numbers, host_line, sold_text, cancelled_text, period_text, verdict_of};
+ghost use Rattle.cap_plays.specs.Report.{sales_text, items_text, numbers_line, terminal_line, host_numbers, host_line, sold_text, cancelled_text, period_text, verdict_of};
 
 use crate::numbers::TerminalNumbers;
 use cap_base::{Ident, Totals};
@@ -44,7 +44,7 @@ fn sales_piece(alloc: Global, numbers: TerminalNumbers) -> Result<String, AllocE
     let cancelled = numbers.cancelled;
     let voided = numbers.voided;
     format!(in alloc;
-        " sales {sales} completed {completed} cancelled {cancelled} voided {voided} periods "
+        "sales {sales} completed {completed} cancelled {cancelled} voided {voided} periods "
     )
 }
 
@@ -57,7 +57,22 @@ fn items_piece(alloc: Global, numbers: TerminalNumbers) -> Result<String, AllocE
     let items = numbers.items;
     let acked = numbers.acked;
     let version = numbers.version;
-    format!(in alloc; "{periods} items {items} acked {acked} set {version}\n")
+    format!(in alloc; "{periods} items {items} acked {acked} set {version}")
+}
+
+/// Appends the numbers of a terminal, as a line without its name.
+pub fn put_numbers(
+    alloc: Global,
+    text: &mut Vec<u8>,
+    numbers: TerminalNumbers,
+) -> Result<(), AllocError>
+    ensures { OnOk result (text.new.items ≡ text.old.items ++ numbers_line numbers) }
+{
+    let sales = sales_piece(alloc, numbers)?;
+    let items = items_piece(alloc, numbers)?;
+    put(text, sales.as_str())?;
+    put(text, items.as_str())?;
+    put(text, "\n")
 }
 
 /// Appends the line of a terminal.
@@ -69,12 +84,10 @@ pub fn put_terminal(
 ) -> Result<(), AllocError>
     ensures { OnOk result (text.new.items ≡ text.old.items ++ terminal_line id.now numbers) }
 {
-    let sales = sales_piece(alloc, numbers)?;
-    let items = items_piece(alloc, numbers)?;
     put(text, "terminal ")?;
     put_bytes(text, id.as_bytes())?;
-    put(text, sales.as_str())?;
-    put(text, items.as_str())
+    put(text, " ")?;
+    put_numbers(alloc, text, numbers)
 }
 
 // The numbers of a log's line.

@@ -1,0 +1,4 @@
+pub mod Parting
+pub mod Holds
+pub mod Giving
+pub mod Turning

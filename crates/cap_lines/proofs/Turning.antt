@@ -4,12 +4,12 @@ use Rattle.std.specs.Prelude.{MatchResult}
 use Rattle.std.specs.Io.KnownBytes.{IsAtEnd, Consumes}
 use Rattle.std.proofs.KnownBytes.{Consumes-nil, Consumes-trans}
 use Rattle.std.proofs.Math.Seq.{take-append-add, take-nil}
-use Rattle.std.proofs.lemmas.List.{take_all}
+use Rattle.std.proofs.lemmas.List.{take_all, nil_from_length}
 use Rattle.std.specs.Str.Lines.{lines}
 use Rattle.std.proofs.lemmas.List.Elements.{All-nil}
 use Rattle.cap_lines.specs.Lines.{most_bytes, most_lines, is_feed, AllLines, FirstOnes, UpToFault, UpToLimit}
 use Rattle.cap_lines.specs.Holding.{HasNoFeed, SplitsLine}
-use Rattle.cap_lines.specs.Reading.{GivenBefore, HasRead, StandsAt, Waits, Fed, Gives, Fails, Answers, Finishes, Turns, line_of, rest_of}
+use Rattle.cap_lines.specs.Reading.{GivenBefore, HasRead, StandsAt, Waits, Fed, Gives, Fails, Answers, Finishes, Turns, IsPrompt, line_of, rest_of}
 use Rattle.cap_lines.specs.declared.reader.LineReader.{LineReader}
 use Rattle.cap_lines.specs.declared.reader.Next.{Next}
 use Rattle.cap_lines.specs.declared.reader.InputFault.{InputFault}
@@ -189,3 +189,22 @@ pub turns_finished : (old s new : LineReader) (before after : Option (List ℕ))
     → Turns old before after new (Ok next)
 turns_finished old s new before after next (more, took, so_far) finishes end =
     (more, took, λ bytes given h. finishes after (bytes ++ more) given (so_far bytes given h) end)
+
+-- no byte was taken since
+none_since : (bytes more : List ℕ) → length (bytes ++ more) ≡ length bytes → bytes ++ more ≡ bytes
+none_since bytes more same =
+    let none : length more ≡ 0 = omega (arith, same, length-append bytes more) in
+    ap (λ (l : List ℕ). bytes ++ l) (nil_from_length more none) ∙ append-nil bytes
+
+-- where the reader answered nothing, all lines that had ended were given
+pub prompt_on : (old r a s : LineReader) (before left : Option (List ℕ)) → HasComeTo old before left r → IsPrompt old before r → Answers r a None → Waits a
+    → IsPrompt old before s
+prompt_on old r a s before left (more, took, so_far) prompt answers w bytes given h =
+    let read : HasRead r left (bytes ++ more) given = so_far bytes given h in
+    elim (prompt bytes given h) [
+      | inl same ↦
+          let no_more : bytes ++ more ≡ bytes = none_since bytes more (sym read.size ∙ (same ∙ h.size)) in
+          let now : HasRead a left (bytes ++ more) given = answers left (bytes ++ more) given read in
+          inr (subst (λ (l : List ℕ). UpToFault l given) no_more (at_fault a a left (bytes ++ more) given now w.goes_on w))
+      | inr up ↦ inr up
+    ]

@@ -54,6 +54,11 @@ Turns old before after new result =
     × ((bytes : List ℕ) (given : List (List ℕ)) → HasRead old before bytes given
     → MatchResult result (Gives after (bytes ++ more) given new) (Fails after (bytes ++ more) given new))
 
+-- More bytes are asked for only where all lines that had ended were given.
+abbrev pub IsPrompt : LineReader → Option (List ℕ) → LineReader → Type 0
+IsPrompt old left new =
+    (bytes : List ℕ) (given : List (List ℕ)) → HasRead old left bytes given → (new.taken ≡ old.taken) ⊎ (UpToFault bytes given)
+
 -- Nothing can be given before more bytes come, and no limit is passed yet.
 pub record Waits (reader : LineReader) : Type 0 where
   pub goes_on : reader.is_ended ≡ false

@@ -31,7 +31,7 @@ pub enum Next {
 pub enum InputFault {
     /// The input could not be read.
     Read,
-    /// There was no memory. Nothing was taken from the input.
+    /// There was no memory for more. What was taken is not lost.
     Memory,
 }
 
@@ -47,7 +47,7 @@ pub struct LineReader {
 
 impl LineReader {
     ghost use Rattle.std.specs.Prelude.{Option};
-    ghost use Rattle.cap_lines.specs.Reading.{HasRead, Waits, Answers, Finishes, Refills, Turns, line_of};
+    ghost use Rattle.cap_lines.specs.Reading.{HasRead, Waits, Answers, Finishes, Refills, Turns, IsPrompt, line_of};
 
     /// A reader that has taken nothing.
     pub fn new(alloc: Global) -> LineReader
@@ -68,10 +68,11 @@ impl LineReader {
         self.held.line()
     }
 
-    /// Gives the next line, before more of the input is taken than it needs. At the input's end what stands behind the last line feed is a
-    /// line too. After `End`, `Limit` and a fault the same call may come again.
+    /// Gives the next line. More of the input is asked for only where all lines that had ended were given. At the input's end what stands
+    /// behind the last line feed is a line too. After `End`, `Limit` and a fault the same call may come again.
     pub fn next<S: Source>(&mut self, input: &mut S) -> Result<Next, InputFault>
         ensures turn { Turns self.old (S.left input.old) (S.left input.new) self.new result }
+        ensures prompt { IsPrompt self.old (S.left input.old) self.new }
         ensures cause { result ≡ Err InputFault.Read → Rose (S.faults input.old) (S.faults input.new) }
         ensures input_later { S.faults input.old ≤ S.faults input.new }
     {
